@@ -1,0 +1,16 @@
+-- What a call comes to: its answer, and the tables after it. Assumes nothing.
+use Prim.Native.Nat.{ℕ}
+use Rattle.heap.specs.declared.Answer.{Answer}
+use Rattle.tables.specs.Cells.{Tables}
+
+pub record Outcome : Type 0 where
+  pub answer : Answer
+  pub table : Tables
+
+abbrev pub outcome : ℕ → ℕ → ℕ → ℕ → Tables → Outcome
+outcome number span offset words t =
+    record { answer = record { number = number; span = span; offset = offset; words = words }; table = t }
+
+-- "A refusal answers its number, span 0, offset 0, words used 0, and changes no cell."
+abbrev pub refused : ℕ → Tables → Outcome
+refused number t = outcome number 0 0 0 t

@@ -1,0 +1,10 @@
+// One heap: allocate from a class, and free by the owner.
+
+// What a call answers: its number, and for an accepted one the block and the number of words used.
+#[repr(C)]
+pub struct Answer {
+    pub number: u64,
+    pub span: u64,
+    pub offset: u64,
+    pub words: u64,
+}

@@ -1,0 +1,1 @@
+// The public calls: fresh, allocate, free, batch and class summary, with every refusal.

@@ -1,0 +1,5 @@
+pub mod Choice
+pub mod Decide
+pub mod First
+pub mod Links
+pub mod Word

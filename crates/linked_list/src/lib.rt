@@ -1,0 +1,1 @@
+// Doubly linked lists of spans, by span numbers as links.

@@ -1,0 +1,1 @@
+// Magazines: a heap's cached blocks of one class, in the lent entries.

@@ -1,0 +1,3 @@
+pub mod SlotSizes
+pub mod Class
+pub mod Slots
