@@ -3,12 +3,13 @@ use mathlib.Core.Bool.{Bool, cond}
 use mathlib.Core.List.{List, [], _∷_, _++_}
 use Prim.Native.Nat.{ℕ, _+_, _*_, _/_, _%_}
 use lib.ListN.{take, drop, getD, set, replicate}
-use lib.Seq.{sets}
+use lib.Seq.{sets, paste}
 use lib.Dec.{eqb, leb}
 use Rattle.laws.specs.Word.{setBit, bitsFrom}
 use Rattle.occupancy.specs.declared.Occupancy.{Occupancy}
 use Rattle.occupancy.specs.Occupied.{occupancy, freshOf, releaseSlot, foldIn}
 use Rattle.tables.specs.declared.ClassHeap.{ClassHeap}
+use Rattle.tables.specs.Shape.{bitmapCells}
 use Rattle.tables.specs.Cells.{Tables, tables, setBits, bitmapCell, bitmapWord, localSummary, localWord, remoteSummary, remoteWord, spanCell, classField, occupiedField, occupiedAt, entryOf}
 
 -- the 64 local, and the 64 pending, words of span s
@@ -24,7 +25,7 @@ loaded t s = occupancy (bitmapWord t s localSummary) (localWords t s) (occupiedA
 
 unfoldable pub stored : Tables → ℕ → Occupancy → Tables
 stored t s o =
-    tables (sets (t .bits) (bitmapCell s localSummary) (o .summary ∷ o .words))
+    tables (paste (t .bits) (bitmapCell s localSummary) (o .summary ∷ o .words) 65)
     (set (t .spans) (spanCell s occupiedField) (o .count))
     (t .entries) (t .heads) (t .used)
 
@@ -44,7 +45,7 @@ deallocSlot t s q = stored t s (releaseSlot (loaded t s) q)
 
 -- nothing pending
 abbrev pub clearPending : Tables → ℕ → Tables
-clearPending t s = setBits t (sets (t .bits) (bitmapCell s remoteSummary) (replicate 65 0))
+clearPending t s = setBits t (paste (t .bits) (bitmapCell s remoteSummary) (replicate 65 0) 65)
 
 -- "fold its pending frees in": the pending slots leave the occupancy, and none is pending any more
 unfoldable pub reclaimPending : Tables → ℕ → Tables
@@ -69,6 +70,7 @@ claimedEntries s i mask = bitsFrom 64 (entryOf s (i * 64)) mask
 unfoldable pub newSpan : Tables → ClassHeap → Tables
 newSpan t k =
     tables
-    (sets (t .bits) (bitmapCell (t .used) localSummary) ((freshOf (k .slots) .summary ∷ freshOf (k .slots) .words) ++ replicate 65 0))
+    (paste (t .bits) (bitmapCell (t .used) localSummary)
+    ((freshOf (k .slots) .summary ∷ freshOf (k .slots) .words) ++ replicate 65 0) bitmapCells)
     (sets (t .spans) (spanCell (t .used) classField) (k .class ∷ k .owner ∷ 0 ∷ 0 ∷ 0 ∷ []))
     (t .entries) (t .heads) (t .used + 1)

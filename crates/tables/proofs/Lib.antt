@@ -1,0 +1,2 @@
+pub mod Tiny
+pub mod Worked

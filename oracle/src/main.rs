@@ -1,0 +1,53 @@
+//! The oracle: drives the original allocator, unchanged, and prints what it did.
+
+#![feature(thread_local, generic_atomic, const_trait_impl, const_cmp)]
+
+// The original and what stands beside it.
+mod allocator;
+mod libc;
+mod objects;
+mod page_size;
+mod start;
+mod utils;
+
+// The harness.
+mod call;
+mod cover;
+mod driver;
+mod generate;
+mod mixes;
+mod play;
+mod random;
+mod recipe;
+mod record;
+mod run;
+mod sanity;
+mod selftest;
+mod table;
+
+const USAGE: &str = "usage: oracle run                                      line commands on stdin
+       oracle generate NAME SEED HEAPS SPANS CALLS    print a call list
+       oracle cover                                   what a call list on stdin does
+       oracle record                                  a list on stdin as a file of the replay crate
+       oracle mixes                                   the names generate takes
+       oracle selftest [LISTS]                        generated lists, each table checked";
+
+fn main() {
+    unsafe { page_size::set_page_size(4096) };
+    let arguments: Vec<String> = std::env::args().skip(1).collect();
+    let words: Vec<&str> = arguments.iter().map(String::as_str).collect();
+    let outcome = match words.as_slice() {
+        ["run"] => run::run(),
+        ["generate", recipe @ ..] => recipe::command(recipe),
+        ["cover"] => cover::command(),
+        ["record"] => record::command(),
+        ["mixes"] => mixes::command(),
+        ["selftest"] => selftest::command("40"),
+        ["selftest", lists] => selftest::command(lists),
+        _ => Err(USAGE.to_string()),
+    };
+    if let Err(message) = outcome {
+        eprintln!("{message}");
+        std::process::exit(2);
+    }
+}
