@@ -3,19 +3,12 @@ use mathlib.Core.Path.{_≡_, refl}
 use mathlib.Core.Bool.{Bool, true, false}
 use mathlib.Core.List.{List, [], _∷_}
 use Prim.Native.Nat.{ℕ, zero, suc, _+_}
-use lib.Count.{onesIn}
-use Rattle.laws.specs.First.{first}
-use Rattle.laws.specs.Links.{walk}
-use Rattle.laws.specs.Word.{bitsFrom}
-use Rattle.size_classes.specs.Slots.{mostSlots}
-use Rattle.occupancy.specs.Occupied.{freshWords, freshOf, firstRoom, firstFree, windowOf, taking, claimIn, claim, releaseSlot, releaseSlotsByWord, foldFrom, foldIn}
-use Rattle.tables.specs.Shape.{bitmapCells, recordCells, headCells}
-use Rattle.tables.specs.Cells.{Tables, partialList, fullList, emptyList, reserve, counter, setHead, occupiedAt, bitmapCell, spanCell, headCell, entryOf, entrySpan, entrySlot}
-use Rattle.magazine.specs.Magazine.{pushEntry, pushEntries, popEntry}
-use Rattle.linked_list.specs.Lists.{push, remove, pop, listOf}
-use Rattle.span.specs.Span.{stored, deallocSlot, reclaimPending, folded, remoteFree, claimedEntries, newSpan}
+use Rattle.tables.specs.Cells.{Tables, partialList, fullList, counter, setHead, occupiedAt}
+use Rattle.linked_list.specs.Lists.{listOf}
+use Rattle.span.specs.Span.{remoteFree}
 use Rattle.tables.proofs.Tiny.{one, blank}
-use Rattle.class_heap.specs.Steps.{demote, releaseEmpty, place, refile, reclaimOne, reclaim, reactivate, create, supply, replenish, ifFull, taken, claimFrom, claimFront, refill, giveBack, flushOne, flush}
+use Rattle.class_heap.specs.Steps.{reactivate, replenish, refill, giveBack, flush}
+use Rattle.class_heap.proofs.Computed.{stepwise}
 
 -- four words, of which each claim uses the next
 abbrev words : List ℕ
@@ -71,7 +64,7 @@ pub record WorkedSteps : Type 0 where
   pub created : replenish 3 twoOut one .used ≡ 3
 
 pub worked : WorkedSteps
-unfolding onesIn first walk bitsFrom mostSlots freshWords freshOf firstRoom firstFree windowOf taking claimIn claim releaseSlot releaseSlotsByWord foldFrom foldIn bitmapCells recordCells headCells bitmapCell spanCell headCell entryOf entrySpan entrySlot pushEntry pushEntries popEntry push remove pop stored deallocSlot reclaimPending folded remoteFree claimedEntries newSpan demote releaseEmpty place refile reclaimOne reclaim reactivate create supply replenish ifFull taken claimFrom claimFront refill giveBack flushOne flush
+unfolding stepwise
 worked =
     record {
       refilled = refl;

@@ -3,30 +3,16 @@ use mathlib.Core.Bool.{Bool, cond}
 use mathlib.Core.List.{List, [], _∷_}
 use Prim.Native.Nat.{ℕ, zero, suc, _+_, _*_}
 use lib.ListN.{length, replicate}
-use lib.Count.{onesIn}
 use lib.Dec.{eqb}
-use Rattle.laws.specs.Choice.{sum, some}
-use Rattle.laws.specs.First.{first}
-use Rattle.laws.specs.Links.{times, walk}
-use Rattle.laws.specs.Word.{bitsFrom}
-use Rattle.size_classes.specs.SlotSizes.{rising, groups, slotSizes, leastAlignment, largestSlot}
-use Rattle.size_classes.specs.Class.{raised, fits, smallestClass, inRange}
-use Rattle.size_classes.specs.Slots.{mostSlots, fewestSlots, slotsPerSpan, startsSlot}
-use Rattle.occupancy.specs.Occupied.{freshWords, freshOf, firstRoom, firstFree, windowOf, taking, claimIn, claim, releaseSlot, releaseSlotsByWord, foldFrom, foldIn}
-use Rattle.magazine_layout.specs.Layout.{magazineBytes, leastCapacity, mostCapacity, capacityFor, lowWaterFor, magazineOffset, entriesPerHeap}
-use Rattle.tables.specs.Shape.{Shape, baseShape, mostHeaps, mostSpans, classes, bitmapCells, recordCells, headCells, rowOf, baseOf, classHeap}
-use Rattle.tables.specs.Cells.{Tables, tables, rightShape, rightLengths, asStated, freshTables, bitmapCell, spanCell, headCell, entryOf, entrySpan, entrySlot}
-use Rattle.magazine.specs.Magazine.{pushEntry, pushEntries, popEntry, drawEntry, isCached}
-use Rattle.linked_list.specs.Lists.{push, remove, pop}
-use Rattle.span.specs.Span.{stored, deallocSlot, reclaimPending, folded, remoteFree, claimedEntries, newSpan}
-use Rattle.span.specs.State.{stateOf}
-use Rattle.class_heap.specs.Steps.{demote, releaseEmpty, place, refile, reclaimOne, reclaim, reactivate, create, supply, replenish, ifFull, taken, claimFrom, claimFront, refill, giveBack, flushOne, flush}
+use Rattle.size_classes.specs.SlotSizes.{slotSizes}
+use Rattle.magazine_layout.specs.Layout.{entriesPerHeap}
+use Rattle.tables.specs.Shape.{baseShape, bitmapCells, recordCells, headCells}
+use Rattle.tables.specs.Cells.{Tables, tables}
 use Rattle.heap.specs.declared.Answer.{Answer}
-use Rattle.heap.specs.Heap.{granted, draw, allocSmall, deallocLocal}
-use Rattle.primary.specs.Primary.{deallocSmall}
-use Rattle.laggersten.specs.Calls.{wordsNeeded, allocateSound, namesSlot, freed, freeSound}
-use Rattle.laggersten.specs.Run.{Call, allocation, release, Ran, runBy, runSound}
-use Rattle.laggersten.specs.Batch.{wordStep, wordsFrom}
+use Rattle.laggersten.specs.Calls.{wordsNeeded}
+use Rattle.laggersten.specs.Run.{Call, allocation, release, Ran, runSound}
+use Rattle.laggersten.specs.Batch.{wordsFrom}
+use Rattle.laggersten.proofs.Computed.{computed}
 
 -- an allocation whose words come from a seed, as a batch's do
 abbrev pub al : ℕ → ℕ → ℕ → ℕ → Call
@@ -77,12 +63,11 @@ left r =
     }
 
 -- a fresh table of so many heaps and spans, over 01's list
-unfoldable pub fresh : ℕ → ℕ → Tables
-unfolding rising groups slotSizes sum magazineBytes leastCapacity mostCapacity capacityFor magazineOffset entriesPerHeap bitmapCells recordCells headCells
+abbrev pub fresh : ℕ → ℕ → Tables
 fresh heaps spans =
     tables (replicate (spans * bitmapCells) 0) (replicate (spans * recordCells) 0) (replicate (heaps * entriesPerHeap slotSizes) 0)
     (replicate (heaps * length slotSizes * headCells) 0) 0
 
 unfoldable pub replay : ℕ → ℕ → List Call → Left
-unfolding fresh onesIn sum some first times walk bitsFrom rising groups slotSizes leastAlignment largestSlot raised fits smallestClass inRange mostSlots fewestSlots slotsPerSpan startsSlot freshWords freshOf firstRoom firstFree windowOf taking claimIn claim releaseSlot releaseSlotsByWord foldFrom foldIn magazineBytes leastCapacity mostCapacity capacityFor lowWaterFor magazineOffset entriesPerHeap bitmapCells recordCells headCells mostSpans rowOf baseOf classHeap bitmapCell spanCell headCell entryOf entrySpan entrySlot pushEntry pushEntries popEntry drawEntry isCached push remove pop stored deallocSlot reclaimPending folded remoteFree claimedEntries newSpan stateOf demote releaseEmpty place refile reclaimOne reclaim reactivate create supply replenish ifFull taken claimFrom claimFront refill giveBack flushOne flush granted draw allocSmall deallocLocal deallocSmall wordsNeeded allocateSound namesSlot freed freeSound runBy wordStep wordsFrom
+unfolding computed
 replay heaps spans calls = left (runSound (baseShape heaps spans) (fresh heaps spans) calls)
