@@ -1,0 +1,3 @@
+pub mod FirstLaws
+pub mod Powers
+pub mod TableLaws
