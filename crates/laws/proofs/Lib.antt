@@ -1,3 +1,4 @@
 pub mod FirstLaws
 pub mod Powers
+pub mod Rising
 pub mod TableLaws

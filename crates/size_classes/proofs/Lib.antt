@@ -1,0 +1,2 @@
+pub mod SlotSizeLaws
+pub mod RaisedLaws
