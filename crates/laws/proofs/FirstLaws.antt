@@ -3,7 +3,6 @@ use mathlib.Core.Bool.{Bool, true, false, cond, true≢false}
 use mathlib.Core.Logic.{_⊎_, inl, inr, ⊎-elim}
 use mathlib.Core.Path.{_≡_, refl}
 use Prim.Native.Nat.{ℕ, zero, suc, _+_, _≤_, _<_}
-use native.Mathlib.Nat.{add-zero, add-suc, suc-add}
 use native.Mathlib.Decide.{decLt}
 use native.Mathlib.Omega.{arith}
 use Rattle.laws.specs.First.{first}
@@ -13,14 +12,18 @@ pub tested : (b : Bool) → (b ≡ true) ⊎ (b ≡ false)
 tested true = inl refl
 tested false = inr refl
 
--- Where the test passes at the end of the range, it passes at the first number.
-pub first-holds : (f : ℕ → Bool) (n k : ℕ) → f (k + n) ≡ true → f (first f n k) ≡ true
+-- Where the test passes somewhere in the range, it passes at the first number.
+pub first-holds : (f : ℕ → Bool) (n k m : ℕ) → k ≤ m → m ≤ k + n → f m ≡ true → f (first f n k) ≡ true
 unfolding first
-first-holds f zero k t = rw add-zero at t
-first-holds f (suc n) k t =
+first-holds f zero k m h l t = let e : m ≡ k = omega arith in rw e at t
+first-holds f (suc n) k m h l t =
     ⊎-elim
     (λ e. rw e e)
-    (λ e. rw e (first-holds f n (suc k) (rw (add-suc, ← suc-add) at t)))
+    (λ e. rw e
+    (elim (decLt k m) [
+      | yes y ↦ first-holds f n (suc k) m (omega arith) (omega arith) t
+      | no y ↦ let q : k ≡ m = omega arith in let z : true ≡ false = cc in absurd (true≢false z)
+    ]))
     (tested (f k))
 
 -- The first number is at most any number of the range at which the test passes.
@@ -57,9 +60,3 @@ first-is f (suc n) k m h l t u =
 pub first-before : (f : ℕ → Bool) (n k j : ℕ) → k ≤ j → j < first f n k → f j ≡ false
 first-before f n k j h l =
     ⊎-elim (λ t. let z = first-le f n k j h t in absurd (omega arith)) (λ e. e) (tested (f j))
-
--- The first number is not above the end of the range.
-pub first-top : (f : ℕ → Bool) (n k : ℕ) → first f n k ≤ k + n
-unfolding first
-first-top f zero k = omega arith
-first-top f (suc n) k = ⊎-elim (λ e. rw e (omega arith)) (λ e. rw e (omega (arith, first-top f n (suc k)))) (tested (f k))

@@ -1,3 +1,4 @@
+pub mod Division
 pub mod FirstLaws
 pub mod Powers
 pub mod Rising

@@ -8,11 +8,10 @@ use lib.Dec.{leb}
 use lib.Pow.{pow-pos, pow-mono, pow-lt}
 use borrow.Author.Tests.{leb-true, le-leb, lt-leb}
 use Rattle.laws.specs.First.{first}
-use Rattle.laws.proofs.FirstLaws.{first-is, first-holds, first-le, first-top}
+use Rattle.laws.proofs.FirstLaws.{first-is, first-holds, first-le}
 use Rattle.laws.proofs.Powers.{power-divides, multiple-of}
 use Rattle.size_classes.specs.SlotSizes.{slotSize, lastSize, leastAlignment, Admissible}
 use Rattle.size_classes.specs.Class.{raised}
-use Rattle.size_classes.proofs.SlotSizeLaws.{size-least}
 use lib.ListN.{length}
 
 -- the exponent of the raised alignment
@@ -34,7 +33,7 @@ raised-is a j h l u =
 -- An alignment of at most 2 ^ 64 is not above its raised one.
 pub raised-ge : (a : ℕ) → a ≤ 2 ^ 64 → a ≤ raised a
 unfolding raised
-raised-ge a h = leb-true a (raised a) (first-holds (λ j. leb a (2 ^ j)) 64 0 (le-leb a (2 ^ (0 + 64)) h))
+raised-ge a h = leb-true a (raised a) (first-holds (λ j. leb a (2 ^ j)) 64 0 64 (omega arith) (omega arith) (le-leb a (2 ^ 64) h))
 
 -- The exponent is at most that of any power of two that is not below the alignment.
 exponent-le : (a j : ℕ) → a ≤ 2 ^ j → exponent a ≤ j
