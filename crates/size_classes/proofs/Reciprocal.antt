@@ -7,7 +7,7 @@ use native.Mathlib.Nat.{div-mul-le-self, lt-div-mul-add, mul-le-mul-left}
 use native.Mathlib.Omega.{arith}
 use Rattle.laws.proofs.Division.{by-multiplying}
 use Rattle.size_classes.specs.SlotSizes.{largestSlot}
-use Rattle.size_classes.specs.Slots.{fewestSlots, slotsPerSpan, spanLength, reciprocal, byReciprocal}
+use Rattle.size_classes.specs.Slots.{slotsPerSpan, spanLength, reciprocal, byReciprocal}
 use Rattle.size_classes.proofs.SlotTheorems.{span-longest}
 
 -- The reciprocal is not below the exact quotient.
@@ -31,7 +31,7 @@ reciprocal-large slot pos top =
 
 -- The error, taken once for each slot of a span, is below the reciprocal.
 error-small : (slot : ℕ) → 0 < slot → slot ≤ largestSlot → slotsPerSpan slot * (reciprocal slot * slot - 2 ^ 64) < reciprocal slot
-unfolding spanLength fewestSlots largestSlot
+unfolding spanLength
 error-small slot pos top =
     let e : slotsPerSpan slot * (reciprocal slot * slot - 2 ^ 64) ≤ spanLength slot
     = mul-le-mul-left (slotsPerSpan slot) (omega (arith, reciprocal-error slot pos)) in

@@ -23,8 +23,8 @@ pub slots-most : (slot : ℕ) → slotsPerSpan slot ≤ mostSlots
 unfolding slotsPerSpan fewestSlots mostSlots
 slots-most slot = omega arith
 
--- A span of the largest slot is the longest.
-pub span-longest : (slot : ℕ) → slot ≤ largestSlot → spanLength slot ≤ fewestSlots * largestSlot
+-- No span is longer than 2^20.
+pub span-longest : (slot : ℕ) → slot ≤ largestSlot → spanLength slot ≤ 2 ^ 20
 unfolding spanLength slotsPerSpan fewestSlots largestSlot
 span-longest slot h =
     elim (decLt fewestSlots (largestSlot / slot)) [
