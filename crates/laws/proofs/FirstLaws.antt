@@ -60,3 +60,9 @@ first-is f (suc n) k m h l t u =
 pub first-before : (f : ℕ → Bool) (n k j : ℕ) → k ≤ j → j < first f n k → f j ≡ false
 first-before f n k j h l =
     ⊎-elim (λ t. let z = first-le f n k j h t in absurd (omega arith)) (λ e. e) (tested (f j))
+
+-- The first number is not before the range.
+pub first-from : (f : ℕ → Bool) (n k : ℕ) → k ≤ first f n k
+unfolding first
+first-from f zero k = omega arith
+first-from f (suc n) k = ⊎-elim (λ e. rw e (omega arith)) (λ e. rw e (omega (arith, first-from f n (suc k)))) (tested (f k))
