@@ -1,8 +1,9 @@
 // Class choice: which class serves a request, by the lookup table and then by alignment.
 ghost use mathlib.Core.Path.{_≡_};
-ghost use Prim.Native.Nat.{max};
+ghost use Prim.Native.Nat.{_<_, max};
+ghost use lib.ListN.{getD};
 ghost use Rattle.size_classes.specs.SlotSizes.{slotSizes};
-ghost use Rattle.size_classes.specs.Class.{classOf};
+ghost use Rattle.size_classes.specs.Class.{classOf, lookupEntries};
 ghost use Rattle.class_lookup.specs.Lookup.{ClassTables};
 ghost use Rattle.class_choice.specs.Search.{bucketOf, alignedFrom, Search};
 use size_classes::ClassFound;
@@ -20,6 +21,21 @@ fn bucket(size: u64) -> u64
     ensures { λ r. ⌜ r ≡ bucketOf size ⌝ }
 {
     (larger(size, LEAST_ALIGNMENT) - 1) / LEAST_ALIGNMENT
+}
+
+fn wide(x: u8) -> u64
+    ensures { λ r. ⌜ r ≡ x ⌝ }
+{
+    x as u64
+}
+
+// Entry b of the lent lookup table.
+fn entry(lookup: &[u8; 8192], b: u64) -> u64
+    requires { ⌜ b < lookupEntries ⌝ }
+    ensures { λ r. ⌜ r ≡ getD (now (lookup .entry)) b 0 ⌝ }
+{
+    let at = b as usize;
+    wide(lookup[at])
 }
 
 // The first class from `class` on whose slot is a multiple of the alignment.
@@ -48,11 +64,11 @@ pub fn class_of(sizes: &[u64], lookup: &[u8; 8192], size: u64, alignment: u64) -
     }
     // Each slot is a multiple of the least alignment, so of each smaller power of two.
     if alignment <= LEAST_ALIGNMENT {
-        let class = class_lookup::entry(lookup, bucket(size));
+        let class = entry(lookup, bucket(size));
         return ClassFound::Class(class);
     }
     let raised = size_classes::raise(alignment);
-    let start = class_lookup::entry(lookup, bucket(larger(size, raised)));
+    let start = entry(lookup, bucket(larger(size, raised)));
     let class = aligned_from(sizes, raised, start);
     ClassFound::Class(class)
 }

@@ -1,9 +1,6 @@
 // The lookup table: the class of each size to 131072, by sixteens.
 ghost use mathlib.Core.Path.{_≡_};
-ghost use Prim.Native.Nat.{_<_};
-ghost use lib.ListN.{getD};
 ghost use Rattle.size_classes.specs.SlotSizes.{slotSizes};
-ghost use Rattle.size_classes.specs.Class.{lookupEntries};
 ghost use Rattle.class_lookup.specs.Lookup.{lookupTable};
 
 const LOOKUP: [u8; 8192] =
@@ -269,19 +266,4 @@ pub fn made() -> [u8; 8192]
     ensures { λ r. ⌜ r ≡ lookupTable slotSizes ⌝ }
 {
     LOOKUP
-}
-
-fn wide(x: u8) -> u64
-    ensures { λ r. ⌜ r ≡ x ⌝ }
-{
-    x as u64
-}
-
-// Entry b of a lent table.
-pub fn entry(table: &[u8; 8192], b: u64) -> u64
-    requires { ⌜ b < lookupEntries ⌝ }
-    ensures { λ r. ⌜ r ≡ getD (now (table .entry)) b 0 ⌝ }
-{
-    let at = b as usize;
-    wide(table[at])
 }

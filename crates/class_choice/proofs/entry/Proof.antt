@@ -1,9 +1,9 @@
--- `class_lookup::entry` meets its contract. Assumes nothing.
+-- `class_choice::entry` meets its contract. Assumes nothing.
 use native.Mathlib.Omega.{arith}
 use borrow.Author.Needs.{needs}
 use Rattle.size_classes.specs.Class.{lookupEntries}
-use Rattle.class_lookup.proofs.entry.Statement.{statement}
-use Rattle.class_lookup.proofs.entry.Tie as tie
+use Rattle.class_choice.proofs.entry.Statement.{statement}
+use Rattle.class_choice.proofs.entry.Tie as tie
 
 element-copy-out-wide : tie.Need-element-copy-out-wide
 unfolding lookupEntries
