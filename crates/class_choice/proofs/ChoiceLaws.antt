@@ -2,7 +2,7 @@
 use mathlib.Core.Bool.{Bool, true, false}
 use mathlib.Core.List.{List}
 use mathlib.Core.Path.{_≡_, sym, ap, _∙_}
-use Prim.Native.Nat.{ℕ, _+_, _-_, _*_, _/_, _%_, _^_, _≤_, _<_, max}
+use Prim.Native.Nat.{ℕ, _+_, _-_, _*_, _%_, _≤_, _<_, max}
 use native.Mathlib.Decide.{decLt}
 use native.Mathlib.Omega.{arith}
 use lib.Dec.{eqb}
@@ -10,14 +10,13 @@ use lib.ListN.{length, getD}
 use borrow.Author.Tests.{eqb-true, eqb-false, eq-eqb}
 use Rattle.laws.specs.First.{first}
 use Rattle.laws.proofs.FirstLaws.{first-holds, first-le, first-before, first-from}
-use Rattle.size_classes.specs.declared.ClassFound.{ClassFound}
 use Rattle.size_classes.specs.declared.ClassFound.the-variants.{Class}
 use Rattle.size_classes.specs.SlotSizes.{slotSize, lastSize, leastAlignment, largestSlot, Admissible}
 use Rattle.size_classes.specs.Class.{raised, fits, classOf, lookupEntry, lookupEntries}
 use Rattle.size_classes.proofs.SlotSizeLaws.{size-le, size-least}
 use Rattle.size_classes.proofs.RaisedLaws.{raised-pos, raised-least, raised-last, small-aligned, last-aligned}
 use Rattle.size_classes.proofs.ClassLaws.{fits-is, no-fit-size, no-fit-align, no-fit-small, in-range, smallest-is}
-use Rattle.class_lookup.specs.Lookup.{ClassTables, lookupTable}
+use Rattle.class_lookup.specs.Lookup.{ClassTables}
 use Rattle.class_lookup.proofs.LookupLaws.{lookup-at, EntryRule, entry-rule}
 use Rattle.class_choice.specs.Search.{bucketOf, alignedFrom, Search}
 

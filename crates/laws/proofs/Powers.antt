@@ -1,6 +1,6 @@
 -- Powers of two divide one another. Assumes nothing.
-use mathlib.Core.Path.{_≡_, sym}
-use Prim.Native.Nat.{ℕ, _+_, _-_, _*_, _%_, _^_, _≤_}
+use mathlib.Core.Path.{_≡_}
+use Prim.Native.Nat.{ℕ, _+_, _-_, _%_, _^_, _≤_}
 use native.Mathlib.Nat.{mul-mod-left, mod-mod-of-dvd, dvd-of-mod-eq-zero, zero-mod}
 use native.Mathlib.Omega.{arith}
 use lib.Pow.{pow-add}

@@ -1,20 +1,18 @@
 -- Which classes fit a request, and how a search for the smallest ends, over any list of slot sizes. Assumes nothing.
-use mathlib.Core.Bool.{true, false, _&&_, cond, and-false, true≢false}
+use mathlib.Core.Bool.{true, false, and-false, true≢false}
 use mathlib.Core.List.{List}
 use mathlib.Core.Logic.{⊎-elim}
-use mathlib.Core.Path.{_≡_, refl, sym, _∙_}
-use Prim.Native.Nat.{ℕ, _+_, _-_, _%_, _≤_, _<_}
+use mathlib.Core.Path.{_≡_, sym, _∙_}
+use Prim.Native.Nat.{ℕ, _%_, _≤_, _<_}
 use native.Mathlib.Decide.{decLt}
 use native.Mathlib.Nat.{mod-eq-of-lt}
 use native.Mathlib.Omega.{arith}
 use lib.Dec.{leb, eqb}
 use lib.ListN.{length}
 use borrow.Author.Tests.{le-leb, lt-leb, eqb-true, eqb-false, eq-eqb, ne-eqb}
-use Rattle.laws.specs.First.{first}
 use Rattle.laws.proofs.FirstLaws.{tested, first-is}
-use Rattle.size_classes.specs.declared.ClassFound.{ClassFound}
 use Rattle.size_classes.specs.declared.ClassFound.the-variants.{Class, TooLarge}
-use Rattle.size_classes.specs.SlotSizes.{slotSize, lastSize, Admissible}
+use Rattle.size_classes.specs.SlotSizes.{slotSize, lastSize}
 use Rattle.size_classes.specs.Class.{raised, fits, inRange, smallestClass, classOf}
 
 module _ (sizes : List ℕ) (s a k : ℕ) where

@@ -1,13 +1,16 @@
 -- Slot division by the reciprocal: for every slot size that a list can have and every offset inside the span, the part above 2^64 of the
 -- product with the rounded-up quotient of 2^64 and the slot size is the plain quotient. Assumes nothing.
+use mathlib.Core.List.{List}
 use mathlib.Core.Path.{_≡_}
 use Prim.Native.Nat.{ℕ, _+_, _-_, _*_, _/_, _^_, _≤_, _<_}
 use native.Mathlib.Decide.{decLt}
 use native.Mathlib.Nat.{div-mul-le-self, lt-div-mul-add, mul-le-mul-left}
 use native.Mathlib.Omega.{arith}
+use lib.ListN.{length}
 use Rattle.laws.proofs.Division.{by-multiplying}
-use Rattle.size_classes.specs.SlotSizes.{largestSlot}
+use Rattle.size_classes.specs.SlotSizes.{slotSize, largestSlot, Admissible}
 use Rattle.size_classes.specs.Slots.{slotsPerSpan, spanLength, reciprocal, byReciprocal}
+use Rattle.size_classes.proofs.SlotSizeLaws.{size-largest}
 use Rattle.size_classes.proofs.SlotTheorems.{span-longest}
 
 -- The reciprocal is not below the exact quotient.
@@ -42,3 +45,13 @@ pub slot-division : (slot offset : ℕ) → 0 < slot → slot ≤ largestSlot �
 unfolding spanLength byReciprocal
 slot-division slot offset pos top inside =
     by-multiplying (2 ^ 64) slot (reciprocal slot) (slotsPerSpan slot) offset pos (reciprocal-over slot pos) (error-small slot pos top) inside
+
+-- Slot division for each class of every admissible list, and every offset inside its span.
+pub class-division :
+    (sizes : List ℕ) →
+    Admissible sizes →
+    (k offset : ℕ) →
+    k < length sizes →
+    offset < spanLength (slotSize sizes k) →
+    offset / slotSize sizes k ≡ byReciprocal (slotSize sizes k) offset
+class-division sizes ok k offset h inside = slot-division (slotSize sizes k) offset (ok .positive k h) (size-largest sizes ok k h) inside

@@ -1,12 +1,12 @@
 -- What holds of the slot sizes of every admissible list, and that 01's list is admissible. Assumes nothing.
 use mathlib.Core.List.{List}
 use mathlib.Core.Path.{_≡_, refl}
-use Prim.Native.Nat.{ℕ, suc, _+_, _-_, _%_, _^_, _≤_, _<_}
+use Prim.Native.Nat.{ℕ, suc, _-_, _%_, _≤_, _<_}
 use native.Mathlib.Nat.{mod-eq-of-lt, le-refl}
 use native.Mathlib.Decide.{decLt, ℕ-discrete}
 use native.Mathlib.Omega.{arith}
 use lib.Dec.{lit<, lit≤}
-use lib.ListN.{length, getD}
+use lib.ListN.{length}
 use Rattle.laws.proofs.Rising.{rises-below}
 use Rattle.laws.proofs.TableLaws.{each-below}
 use Rattle.size_classes.specs.SlotSizes.{rising, groups, slotSizes, slotSize, lastSize, leastAlignment, largestSlot, mostClasses, Admissible}

@@ -1,12 +1,11 @@
 -- The slots of a span: how many there are, how long the span is, and that `slotAt` accepts exactly the starts of slots inside it. Assumes nothing.
-use mathlib.Core.Bool.{true, false, _&&_, cond, and-false}
-use mathlib.Core.Logic.{⊎-elim}
+use mathlib.Core.Bool.{and-false}
 use mathlib.Core.Path.{_≡_, refl, sym, _∙_, ap}
-use Prim.Native.Nat.{ℕ, _+_, _-_, _*_, _/_, _%_, _^_, _≤_, _<_, min, max}
+use Prim.Native.Nat.{ℕ, _*_, _/_, _%_, _^_, _≤_, _<_}
 use native.Mathlib.Decide.{decLt, ℕ-discrete}
 use native.Mathlib.Nat.{div-mul-le-self, div-add-mod', mul-div-cancel, mul-mod-left, mul-le-mul-right}
 use native.Mathlib.Omega.{arith}
-use lib.Dec.{eqb, ltb}
+use lib.Dec.{eqb}
 use borrow.Author.Tests.{eq-eqb, ne-eqb, lt-ltb, le-ltb}
 use Rattle.size_classes.specs.declared.SlotFound.{SlotFound}
 use Rattle.size_classes.specs.declared.SlotFound.the-variants.{Slot, NoSlot}

@@ -1,6 +1,5 @@
 -- `class_choice::class_of` meets its contract. Assumes nothing.
-use mathlib.Core.Path.{_≡_, sym, _∙_, ap}
-use Prim.Native.Nat.{ℕ, _≤_}
+use mathlib.Core.Path.{sym}
 use native.Mathlib.Omega.{arith}
 use borrow.Author.Needs.{needs}
 use Rattle.size_classes.specs.SlotSizes.{leastAlignment, largestSlot}
