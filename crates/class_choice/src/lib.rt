@@ -10,6 +10,7 @@ use size_classes::ClassFound;
 
 const LEAST_ALIGNMENT: u64 = 16;
 
+// The larger of two numbers.
 fn larger(x: u64, y: u64) -> u64
     ensures { λ r. ⌜ r ≡ max x y ⌝ }
 {
@@ -23,6 +24,7 @@ fn bucket(size: u64) -> u64
     (larger(size, LEAST_ALIGNMENT) - 1) / LEAST_ALIGNMENT
 }
 
+// A byte as a number of 64 bits.
 fn wide(x: u8) -> u64
     ensures { λ r. ⌜ r ≡ x ⌝ }
 {

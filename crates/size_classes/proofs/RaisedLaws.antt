@@ -5,6 +5,7 @@ use Prim.Native.Nat.{ℕ, _%_, _^_, _≤_, _<_}
 use native.Mathlib.Decide.{decLt}
 use native.Mathlib.Omega.{arith}
 use lib.Dec.{leb}
+use lib.ListN.{length}
 use lib.Pow.{pow-pos, pow-mono, pow-lt}
 use borrow.Author.Tests.{leb-true, le-leb, lt-leb}
 use Rattle.laws.specs.First.{first}
@@ -12,7 +13,6 @@ use Rattle.laws.proofs.FirstLaws.{first-is, first-holds, first-le}
 use Rattle.laws.proofs.Powers.{power-divides, multiple-of}
 use Rattle.size_classes.specs.SlotSizes.{slotSize, lastSize, leastAlignment, Admissible}
 use Rattle.size_classes.specs.Class.{raised}
-use lib.ListN.{length}
 
 -- the exponent of the raised alignment
 unfoldable exponent : ℕ → ℕ
@@ -57,6 +57,15 @@ raised-divides a j h =
       | no y ↦ power-divides (exponent a) j (omega arith)
     ])
 
+-- The least alignment is a power of two.
+least-power : leastAlignment ≡ 2 ^ 4
+unfolding leastAlignment
+least-power = refl
+
+-- An alignment not above the least one is raised to one not above it.
+pub raised-least : (a : ℕ) → a ≤ leastAlignment → raised a ≤ leastAlignment
+raised-least a h = rw least-power (raised-le a 4 (rw least-power at h))
+
 module _ (sizes : List ℕ) (ok : Admissible sizes) (a : ℕ) where
   -- An alignment not above the last size is raised to one not above it.
   pub raised-last : a ≤ lastSize sizes → raised a ≤ lastSize sizes
@@ -68,10 +77,6 @@ module _ (sizes : List ℕ) (ok : Admissible sizes) (a : ℕ) where
 
   -- Every slot is a multiple of every raised alignment that is not above the least one.
   pub small-aligned : raised a ≤ leastAlignment → (k : ℕ) → k < length sizes → slotSize sizes k % raised a ≡ 0
-  unfolding leastAlignment
-  small-aligned h k l = multiple-of (slotSize sizes k) leastAlignment (raised a) (raised-divides a 4 h) (ok .multiple k l)
-
--- An alignment not above the least one is raised to one not above it.
-pub raised-least : (a : ℕ) → a ≤ leastAlignment → raised a ≤ leastAlignment
-unfolding leastAlignment
-raised-least a h = raised-le a 4 h
+  small-aligned h k l =
+      let d : leastAlignment % raised a ≡ 0 = rw least-power (raised-divides a 4 (rw least-power at h)) in
+      multiple-of (slotSize sizes k) leastAlignment (raised a) d (ok .multiple k l)

@@ -27,8 +27,10 @@ pub span-longest : (slot : ℕ) → slot ≤ largestSlot → spanLength slot ≤
 unfolding spanLength slotsPerSpan fewestSlots largestSlot
 span-longest slot h =
     elim (decLt fewestSlots (largestSlot / slot)) [
-      | yes y ↦ omega (arith, div-mul-le-self largestSlot slot, mul-le-mul-right slot (let l : slotsPerSpan slot ≤ largestSlot / slot = omega arith in l))
-      | no y ↦ omega (arith, let e : slotsPerSpan slot ≡ fewestSlots = omega arith in ap (λ (n : ℕ). n * slot) e)
+      | yes y ↦
+          let l : slotsPerSpan slot ≤ largestSlot / slot = omega arith in
+          omega (arith, div-mul-le-self largestSlot slot, mul-le-mul-right slot l)
+      | no y ↦ let e : slotsPerSpan slot ≡ fewestSlots = omega arith in omega (arith, ap (λ (n : ℕ). n * slot) e)
     ]
 
 module _ (slot offset : ℕ) where

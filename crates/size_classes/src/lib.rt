@@ -94,6 +94,7 @@ pub fn raise(alignment: u64) -> u64
     p
 }
 
+// How many slots a span has.
 pub fn slots_per_span(slot: u64) -> u64
     requires { ⌜ 0 < slot ⌝ }
     ensures { λ r. ⌜ r ≡ slotsPerSpan slot ⌝ }
@@ -108,6 +109,7 @@ pub fn slots_per_span(slot: u64) -> u64
     }
 }
 
+// How long a span is, in bytes.
 pub fn span_length(slot: u64) -> u64
     requires { ⌜ (0 < slot) × (slot ≤ largestSlot) ⌝ }
     ensures { λ r. ⌜ r ≡ spanLength slot ⌝ }

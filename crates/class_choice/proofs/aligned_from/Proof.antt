@@ -16,11 +16,13 @@ use Rattle.class_choice.specs.Search.{alignedFrom, Search}
 use Rattle.class_choice.proofs.aligned_from.Statement.{statement}
 use Rattle.class_choice.proofs.aligned_from.Tie as tie
 
+-- the search has come from class start to class k, and no class passed has an aligned slot
 record Searched (sizes : List ℕ) (a start k : ℕ) : Type 0 where
   class : k < length sizes
   from : start ≤ k
   passed : (j : ℕ) → start ≤ j → j < k → eqb (slotSize sizes j % a) 0 ≡ false
 
+-- A class whose slot is not aligned is passed.
 more :
     (sizes : List ℕ) (a start k : ℕ) →
     Search sizes a start →
@@ -43,6 +45,7 @@ more sizes a start k q n r =
           ];
     }
 
+-- A class whose slot is aligned is what the search is for.
 found : (sizes : List ℕ) (a start k : ℕ) → slotSize sizes k % a ≡ 0 → Searched sizes a start k → alignedFrom sizes a start ≡ k
 unfolding alignedFrom
 found sizes a start k m r =

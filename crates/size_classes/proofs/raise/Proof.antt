@@ -10,15 +10,18 @@ use Rattle.size_classes.proofs.RaisedLaws.{raised-is}
 use Rattle.size_classes.proofs.raise.Statement.{statement}
 use Rattle.size_classes.proofs.raise.Tie as tie
 
+-- p is a power of two, and the smaller powers are below the alignment
 record Doubled (alignment p : ℕ) : Type 0 where
   times : ℕ
   is : p ≡ 2 ^ times
   few : times ≤ 63
   passed : (i : ℕ) → i < times → 2 ^ i < alignment
 
+-- It holds of 1.
 once : (alignment : ℕ) → Doubled alignment 1
 once alignment = record { times = 0; is = refl; few = omega arith; passed = λ i h. omega arith }
 
+-- It holds of the double of a number that is below the alignment.
 more : (alignment p : ℕ) → alignment ≤ 2 ^ 63 → p < alignment → Doubled alignment p → Doubled alignment (p * 2)
 more alignment p top h d =
     let j = d .times in
@@ -31,6 +34,7 @@ more alignment p top h d =
       passed = below-more _ _ (d .passed) l;
     }
 
+-- Such a number is positive.
 positive : (alignment p : ℕ) → Doubled alignment p → 0 < p
 positive alignment p d = omega (arith, d .is, pow-pos (d .times))
 
