@@ -1,2 +1,3 @@
 pub mod Tiny
 pub mod Worked
+pub mod CellLaws
