@@ -1,5 +1,11 @@
+pub mod BitLaws
+pub mod CellLaws
+pub mod CondLaws
 pub mod Division
 pub mod FirstLaws
+pub mod MaskLaws
 pub mod Powers
 pub mod Rising
+pub mod SumLaws
 pub mod TableLaws
+pub mod WordLaws

@@ -1,0 +1,30 @@
+-- Laws of sums over the numbers below a bound. Assumes nothing.
+use mathlib.Core.Path.{_≡_, refl, sym, ap, ap₂, _∙_}
+use Prim.Native.Nat.{ℕ, zero, suc, _+_, _-_, _*_, _<_, _≤_}
+use native.Mathlib.Nat.{add-zero, add-suc}
+use native.Mathlib.Omega.{arith}
+use Rattle.laws.specs.Choice.{sum}
+
+-- Sums of functions that agree below the bound agree.
+pub sum-same : (n : ℕ) (f g : ℕ → ℕ) → ((k : ℕ) → k < n → f k ≡ g k) → sum n f ≡ sum n g
+unfolding sum
+sum-same zero f g e = refl
+sum-same (suc n) f g e = ap₂ _+_ (sum-same n f g (λ k h. e k (omega arith))) (e n (omega arith))
+
+-- A sum is that of its first n terms and that of the rest.
+pub sum-split : (n k : ℕ) (f : ℕ → ℕ) → sum (n + k) f ≡ sum n f + sum k (λ i. f (n + i))
+unfolding sum
+sum-split n zero f = ap (λ (z : ℕ). sum z f) (add-zero n) ∙ sym (add-zero (sum n f))
+sum-split n (suc k) f = ap (λ (z : ℕ). sum z f) (add-suc n k) ∙ omega (arith, sum-split n k f)
+
+-- A sum of ones is their number.
+pub sum-ones : (n : ℕ) (f : ℕ → ℕ) → ((k : ℕ) → k < n → f k ≡ 1) → sum n f ≡ n
+unfolding sum
+sum-ones zero f e = refl
+sum-ones (suc n) f e = omega (arith, sum-ones n f (λ k h. e k (omega arith)), e n (omega arith))
+
+-- A sum of terms that are at most one is at most their number.
+pub sum-most : (n : ℕ) (f : ℕ → ℕ) → ((k : ℕ) → f k ≤ 1) → sum n f ≤ n
+unfolding sum
+sum-most zero f e = omega arith
+sum-most (suc n) f e = omega (arith, sum-most n f e, e n)
