@@ -1,16 +1,18 @@
 -- Words bit by bit: each operation's bits, and that a word is its bits. Assumes nothing.
 use mathlib.Core.Path.{_≡_, refl, sym, ap, ap₂, subst, _∙_}
 use mathlib.Core.Logic.{_⊎_, inl, inr}
+use mathlib.Core.Bool.{not}
 use Prim.Native.Nat.{ℕ, zero, suc, _+_, _-_, _*_, _/_, _%_, _^_, _≤_, _<_, min, max}
-use native.Mathlib.Nat.{min-zero, div-self, zero-div, div-eq-of-lt, pow-suc, add-mul-div-right, mul-assoc, div-one, div-add-mod', mod-lt, mod-eq-of-lt, one-mul, lt-of-lt-of-le, lt-of-le-of-lt, sub-le, le-of-suc-le-suc}
+use native.Mathlib.Nat.{min-zero, div-self, zero-div, zero-mul, div-eq-of-lt, pow-suc, add-mul-div-right, mul-assoc, div-one, div-add-mod', mod-lt, mod-eq-of-lt, one-mul, lt-of-lt-of-le, lt-of-le-of-lt, sub-le, le-of-suc-le-suc}
 use native.Mathlib.Numerals.{one-add}
 use native.Mathlib.Decide.{decLt}
 use native.Mathlib.Omega.{arith}
-use lib.Dec.{lit<}
+use lib.Dec.{lit<, eqb}
+use borrow.Author.Tests.{ne-eqb}
 use lib.Pow.{shr-shr, pow-add, split, high, pow-lt, pow-pos, pow-mono, ones-split, ones-lt}
 use lib.Bits.{bitAnd, bitOr, or-add-and, and-step, or-step, and-shr, or-shr, or-lt}
 use lib.Count.{trailingZeros, under}
-use Rattle.laws.specs.Word.{bitAt, setBit, clearBit}
+use Rattle.laws.specs.Word.{bitAt, isSet, setBit, clearBit}
 use Rattle.laws.proofs.WordLaws.{and-bit, and-not}
 
 -- Below, or not.
@@ -141,6 +143,15 @@ clear-and x i hx h = omega (arith, and-not 64 x (2 ^ i) hx (pow-lt h), and-bit x
 -- The code's `x & !(1 << i)`.
 pub clear-is : (x i : ℕ) → x < 2 ^ 64 → i < 64 → bitAnd x ((2 ^ 64 - 1) - (1 * 2 ^ i) % 2 ^ 64) ≡ clearBit x i
 clear-is x i hx h = ap (λ (z : ℕ). bitAnd x ((2 ^ 64 - 1) - z)) (one-shl i h) ∙ clear-and x i hx h
+
+-- The code's `x & (1 << i) != 0` is whether bit i of x is set.
+pub test-is : (x i : ℕ) → i < 64 → not (eqb (bitAnd x ((1 * 2 ^ i) % 2 ^ 64)) 0) ≡ isSet x i
+test-is x i h = ap (λ (z : ℕ). not (eqb z 0)) (ap (bitAnd x) (one-shl i h) ∙ and-bit x i) ∙ go (bitAt x i) (bit-lt x i)
+  where
+    go : (b : ℕ) → b < 2 → not (eqb (b * 2 ^ i) 0) ≡ eqb b 1
+    go zero l = ap (λ (z : ℕ). not (eqb z 0)) (zero-mul (2 ^ i))
+    go (suc zero) l = ap not (ne-eqb (1 * 2 ^ i) 0 (λ e. let z : ⊥ = omega (arith, pow-pos i) in z))
+    go (suc (suc b)) l = absurd (let z : ⊥ = omega arith in z)
 
 -- A set bit is set.
 pub bit-set-same : (x i : ℕ) → bitAt (setBit x i) i ≡ 1

@@ -1,2 +1,2 @@
-pub mod Deposit
 pub mod Occupied
+pub mod Right

@@ -1,0 +1,2 @@
+pub mod RotationLaws
+pub mod DepositLaws

@@ -1,0 +1,16 @@
+use native.Mathlib.Omega.{arith}
+use lib.Count.{ones-le}
+use Rattle.laws.proofs.WordLaws.{ones-in}
+use Rattle.bits.proofs.count.Statement.{statement}
+use Rattle.bits.proofs.count.Tie as tie
+use Rattle.bits.proofs.count.Reads as reads
+use Rattle.bits.proofs.count.Lts as lts
+
+cast-result : tie.Need-cast-result
+cast-result c = omega (arith, ones-le 64 (c .args .x) (c .fits .x .fits))
+
+returns : tie.Need-returns
+returns c = ones-in 64 (c .args .x) (c .fits .x .fits)
+
+pub count-spec : {M : Type 1} → statement M
+count-spec = tie.close (tie.spec cast-result returns)
