@@ -1,18 +1,20 @@
 -- Words bit by bit: each operation's bits, and that a word is its bits. Assumes nothing.
 use mathlib.Core.Path.{_≡_, refl, sym, ap, ap₂, subst, _∙_}
 use mathlib.Core.Logic.{_⊎_, inl, inr}
-use mathlib.Core.Bool.{not}
+use mathlib.Core.Bool.{true, false, true≢false, not, cond}
 use Prim.Native.Nat.{ℕ, zero, suc, _+_, _-_, _*_, _/_, _%_, _^_, _≤_, _<_, min, max}
-use native.Mathlib.Nat.{min-zero, div-self, zero-div, zero-mul, div-eq-of-lt, pow-suc, add-mul-div-right, mul-assoc, div-one, div-add-mod', mod-lt, mod-eq-of-lt, one-mul, lt-of-lt-of-le, lt-of-le-of-lt, sub-le, le-of-suc-le-suc}
+use native.Mathlib.Nat.{min-zero, div-self, zero-add, zero-div, zero-mul, div-eq-of-lt, pow-suc, add-mul-div-right, mul-assoc, div-one, div-add-mod', mod-lt, mod-eq-of-lt, one-mul, lt-of-lt-of-le, lt-of-le-of-lt, sub-le, le-of-suc-le-suc}
 use native.Mathlib.Numerals.{one-add}
 use native.Mathlib.Decide.{decLt}
 use native.Mathlib.Omega.{arith}
 use lib.Dec.{lit<, eqb}
-use borrow.Author.Tests.{ne-eqb}
+use borrow.Author.Tests.{ne-eqb, eqb-true}
 use lib.Pow.{shr-shr, pow-add, split, high, pow-lt, pow-pos, pow-mono, ones-split, ones-lt}
 use lib.Bits.{bitAnd, bitOr, or-add-and, and-step, or-step, and-shr, or-shr, or-lt}
-use lib.Count.{trailingZeros, under}
+use lib.Count.{onesIn, trailingZeros, under}
+use Rattle.laws.specs.Choice.{sum}
 use Rattle.laws.specs.Word.{bitAt, isSet, setBit, clearBit}
+use Rattle.laws.proofs.SumLaws.{sum-same, sum-split}
 use Rattle.laws.proofs.WordLaws.{and-bit, and-not}
 
 -- Below, or not.
@@ -208,3 +210,36 @@ pub trailing-at : (d y : ℕ) → 0 < y → y < 2 ^ d → (trailingZeros d y < d
 unfolding trailingZeros
 trailing-at zero y p h = absurd (let z : ⊥ = omega arith in z)
 trailing-at (suc d) y p h = at-digit (y % 2) (trailingZeros d (y / 2)) d y refl p (λ q. trailing-at d (y / 2) q (omega (arith, pow-suc 2 d)))
+
+-- ---- bits as tests and as terms of a sum
+
+-- A bit that is set is 1.
+pub set-one : (x i : ℕ) → isSet x i ≡ true → bitAt x i ≡ 1
+set-one x i e = eqb-true (bitAt x i) 1 e
+
+-- A bit that is not set is 0.
+pub set-none : (x i : ℕ) → isSet x i ≡ false → bitAt x i ≡ 0
+set-none x i e = go (bitAt x i) (bit-lt x i) e
+  where
+    go : (b : ℕ) → b < 2 → eqb b 1 ≡ false → b ≡ 0
+    go zero l e = refl
+    go (suc zero) l e = absurd (true≢false e)
+    go (suc (suc b)) l e = absurd (let z : ⊥ = omega arith in z)
+
+-- A bit is the number of its test.
+pub bit-cond : (x i : ℕ) → cond (isSet x i) 1 0 ≡ bitAt x i
+bit-cond x i = go (bitAt x i) (bit-lt x i)
+  where
+    go : (b : ℕ) → b < 2 → cond (eqb b 1) 1 0 ≡ b
+    go zero l = refl
+    go (suc zero) l = refl
+    go (suc (suc b)) l = absurd (let z : ⊥ = omega arith in z)
+
+-- How many of d digits are set is the sum of d bits.
+pub ones-sum : (d x : ℕ) → sum d (bitAt x) ≡ onesIn d x
+unfolding sum onesIn
+ones-sum zero x = refl
+ones-sum (suc d) x =
+    ap (λ (z : ℕ). sum z (bitAt x)) (sym (one-add d)) ∙ sum-split 1 d (bitAt x)
+    ∙ ap₂ _+_ (zero-add (bitAt x 0) ∙ bit-first x)
+    (sum-same d (λ i. bitAt x (1 + i)) (bitAt (x / 2)) (λ i h. sym (bit-shr x 1 i)) ∙ ones-sum d (x / 2))

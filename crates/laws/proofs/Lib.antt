@@ -1,5 +1,4 @@
 pub mod BitLaws
-pub mod CellLaws
 pub mod CondLaws
 pub mod Division
 pub mod FirstLaws

@@ -2,6 +2,7 @@
 use mathlib.Core.Path.{_≡_, refl, sym, ap, ap₂, _∙_}
 use Prim.Native.Nat.{ℕ, zero, suc, _+_, _-_, _*_, _<_, _≤_}
 use native.Mathlib.Nat.{add-zero, add-suc}
+use native.Mathlib.Decide.{ℕ-discrete}
 use native.Mathlib.Omega.{arith}
 use Rattle.laws.specs.Choice.{sum}
 
@@ -28,3 +29,20 @@ pub sum-most : (n : ℕ) (f : ℕ → ℕ) → ((k : ℕ) → f k ≤ 1) → sum
 unfolding sum
 sum-most zero f e = omega arith
 sum-most (suc n) f e = omega (arith, sum-most n f e, e n)
+
+-- Of two sums whose terms agree but at i, each with the other's term at i.
+pub sum-put :
+    (n i : ℕ) (f g : ℕ → ℕ) → i < n → ((j : ℕ) → (j ≡ i → ⊥) → f j ≡ g j) → sum n f + g i ≡ sum n g + f i
+unfolding sum
+sum-put zero i f g h e = absurd (let z : ⊥ = omega arith in z)
+sum-put (suc n) i f g h e = go (ℕ-discrete n i) (λ l. sum-put n i f g l e)
+  where
+    go : Dec (n ≡ i) → (i < n → sum n f + g i ≡ sum n g + f i) → sum n f + f n + g i ≡ sum n g + g n + f i
+    go (yes q) rest = omega (arith, ap f q, ap g q, sum-same n f g (λ k l. e k (λ z. let w : ⊥ = omega arith in w)))
+    go (no q) rest = omega (arith, rest (omega arith), e n q)
+
+-- A sum of zeros is 0.
+pub sum-none : (n : ℕ) (f : ℕ → ℕ) → ((k : ℕ) → k < n → f k ≡ 0) → sum n f ≡ 0
+unfolding sum
+sum-none zero f e = refl
+sum-none (suc n) f e = omega (arith, sum-none n f (λ k h. e k (omega arith)), e n (omega arith))

@@ -1,0 +1,4 @@
+pub mod RoomLaws
+pub mod WindowLaws
+pub mod FreshLaws
+pub mod RightLaws

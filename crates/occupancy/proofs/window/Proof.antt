@@ -1,0 +1,71 @@
+-- `window` meets its contract: rotation, deposit and rotation back are the scan for the first free bits. Assumes nothing.
+use borrow.Author.Needs.{needs}
+use borrow.Author.Tests.{le-leb, lt-leb}
+use mathlib.Core.Bool.{Bool, cond}
+use mathlib.Core.Path.{_≡_, sym, ap, _∙_}
+use Prim.Native.Nat.{ℕ, _-_, _^_}
+use lib.Dec.{leb}
+use Rattle.bits.specs.Deposit.{lowest}
+use Rattle.bits.specs.Rotated.{rotatedLeft}
+use Rattle.occupancy.specs.Occupied.{firstFree, windowOf}
+use Rattle.occupancy.proofs.WindowLaws.{window-is}
+use Rattle.occupancy.proofs.window.Statement.{statement}
+use Rattle.occupancy.proofs.window.Tie as tie
+use Rattle.occupancy.proofs.window.Reads as reads
+use Rattle.occupancy.proofs.window.Lts as lts
+use Rattle.bits.proofs.count.Reads as count-reads
+use Rattle.bits.proofs.deposit.Reads as deposit-reads
+use Rattle.bits.proofs.rotate_left.Reads as rotate-left-reads
+use Rattle.bits.proofs.rotate_right.Reads as rotate-right-reads
+
+-- src/lib.rt:82:8
+count-requires : tie.Need-count-requires
+count-requires c κs = search needs
+
+-- src/lib.rt:83:9
+returns : tie.Need-returns
+unfolding windowOf
+returns c =
+    let a = c .before .before .args in
+    let x = 2 ^ 64 - 1 - a .word in
+    let n = c .before .count in
+    sym (ap (λ (b : Bool). cond b x (firstFree 64 (a .max) (a .rotation) (a .word)))
+    (ap (λ (z : ℕ). leb z (a .max)) (sym (n .ensures)) ∙ le-leb (n .result) (a .max) (c .if1 .taken)))
+
+-- src/lib.rt:85:9
+rotate-right-requires : tie.Need-rotate-right-requires
+rotate-right-requires c κs = search needs
+
+-- src/lib.rt:86:23
+deposit-requires : tie.Need-deposit-requires
+deposit-requires c κs = search needs
+
+-- src/lib.rt:86:5
+rotate-left-requires : tie.Need-rotate-left-requires
+rotate-left-requires c κs = search needs
+
+-- src/lib.rt:77:1
+returns-2 : tie.Need-returns-2
+unfolding windowOf
+returns-2 c =
+    let s = c .before .before .before .before .before in
+    let a = s .args in
+    let x = 2 ^ 64 - 1 - a .word in
+    let n = c .before .before .before .before .count in
+    c .rotate-left .ensures
+    ∙ ap (λ (z : ℕ). rotatedLeft z (a .rotation))
+    (c .before .deposit .ensures ∙ ap (lowest 64 (a .max)) (c .before .before .rotate-right .ensures))
+    ∙ window-is (a .word) (a .max) (a .rotation) (s .fits .word .fits) (s .pre)
+    ∙ sym (ap (λ (b : Bool). cond b x (firstFree 64 (a .max) (a .rotation) (a .word)))
+    (ap (λ (z : ℕ). leb z (a .max)) (sym (n .ensures)) ∙ lt-leb (n .result) (a .max) (c .before .before .before .if1 .left)))
+
+pub window-spec : {M : Type 1} → statement M
+window-spec =
+    tie.close
+    (tie.spec
+    count-requires
+    returns
+    rotate-right-requires
+    deposit-requires
+    rotate-left-requires
+    returns-2)
