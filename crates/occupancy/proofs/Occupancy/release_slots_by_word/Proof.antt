@@ -1,4 +1,12 @@
+-- `Occupancy::release_slots_by_word` meets its contract: the slots freed are taken, so `& !` is a difference. Assumes nothing.
 use borrow.Author.Needs.{needs}
+use mathlib.Core.Path.{_≡_}
+use Prim.Native.Nat.{_-_, _^_}
+use native.Mathlib.Omega.{arith}
+use lib.Bits.{bitAnd}
+use Rattle.laws.proofs.MaskLaws.{within-not}
+use Rattle.occupancy.specs.Occupied.{wordOf}
+use Rattle.occupancy.proofs.ReleaseLaws.{held-within, held-most, released-none, released}
 use Rattle.occupancy.proofs.Occupancy.release_slots_by_word.Statement.{statement}
 use Rattle.occupancy.proofs.Occupancy.release_slots_by_word.Tie as tie
 use Rattle.occupancy.proofs.Occupancy.release_slots_by_word.Reads as reads
@@ -8,7 +16,9 @@ use Rattle.bits.proofs.count.Reads as count-reads
 
 -- src/lib.rt:132:13
 returns : tie.Need-returns
-returns c = ?
+returns c =
+    let a = c .before .args in
+    released-none (a .self) (a .word) (a .freed) (c .if1 .taken)
 
 -- src/lib.rt:136:20
 mul-words : tie.Need-mul-words
@@ -36,11 +46,22 @@ count-requires c κs = search needs
 
 -- src/lib.rt:140:20
 sub-t12 : tie.Need-sub-t12
-sub-t12 c = ?
+sub-t12 c =
+    let s = c .before .before .before .before .before in
+    let p = s .pre in
+    omega (arith, c .before .count .ensures, held-most (p .0) (s .args .self) (p .1 .0) (s .args .word) (s .args .freed) (p .1 .1))
 
 -- src/lib.rt:127:5
 returns-2 : tie.Need-returns-2
-returns-2 c = ?
+returns-2 c =
+    let s = c .before .before .before .before .before in
+    let a = s .args in
+    let p = s .pre in
+    let held = p .1 .1 in
+    let less : bitAnd (wordOf (a .self) (a .word)) (2 ^ 64 - 1 - a .freed) ≡ wordOf (a .self) (a .word) - a .freed =
+    within-not 64 (a .freed) (wordOf (a .self) (a .word)) (held .word) (p .1 .0 .small (a .word) (held .place))
+    (held-within (p .0) (a .self) (p .1 .0) (a .word) (a .freed) held) in
+    released (a .self) (a .word) (a .freed) (c .before .before .before .before .if1 .left) (c .before .before .clear-bit .ensures) less (c .before .count .ensures)
 
 pub release-slots-by-word-spec : {M : Type 1} → statement M
 release-slots-by-word-spec =

@@ -1,0 +1,335 @@
+-- A release keeps one span's occupancy right, frees what it names and nothing else, and the count follows; so does the fold of pending frees.
+-- Assumes nothing.
+use mathlib.Core.Path.{_≡_, refl, sym, ap, ap₂, subst, _∙_}
+use mathlib.Core.Bool.{Bool, true, false, true≢false, _&&_, not}
+use mathlib.Core.List.{List}
+use mathlib.Core.Logic.{_⊎_, inl, inr, ⊎-elim}
+use Prim.Native.Nat.{ℕ, zero, suc, _+_, _-_, _*_, _/_, _%_, _^_, _≤_, _<_}
+use native.Mathlib.Nat.{mod-lt, one-mul, zero-add, lt-of-le-of-lt, sub-le}
+use native.Mathlib.Numerals.{add-one}
+use native.Mathlib.Decide.{ℕ-discrete, decLt}
+use native.Mathlib.Omega.{arith}
+use lib.Dec.{eqb, lit<}
+use lib.ListN.{getD, set}
+use lib.Pow.{pow-lt, pow-pos}
+use borrow.Author.Tests.{eq-eqb, ne-eqb}
+use Rattle.laws.specs.Choice.{sum}
+use Rattle.laws.specs.Word.{allOnes, bitAt, isSet, clearBit, popcount}
+use Rattle.laws.proofs.CondLaws.{and-true}
+use Rattle.laws.proofs.FirstLaws.{tested}
+use Rattle.laws.proofs.SumLaws.{sum-same, sum-split}
+use Rattle.laws.proofs.WordLaws.{ones-none, ones-pow}
+use Rattle.laws.proofs.BitLaws.{lt-or-le, bit-lt, bit-zero, bit-past, bit-pow-same, bit-pow-other, bit-clear-same, bit-clear-other, clear-lt, set-one, set-none}
+use Rattle.laws.proofs.MaskLaws.{Within, within-le, sub-bit, sub-ones}
+use Rattle.occupancy.specs.declared.Occupancy.{Occupancy}
+use Rattle.occupancy.specs.Occupied.{occupancy, wordOf, releaseSlot, releaseSlotsByWord, foldFrom, foldIn}
+use Rattle.occupancy.specs.Right.{isTaken, Right, Held, Pending}
+use Rattle.occupancy.proofs.RightLaws.{slot-word, slot-bit, slot-taken, total, total-past, count-total, put, put-same, put-other, put-total, put-past, put-right}
+
+-- A bit without another that is not above it, as tests.
+bit-less : (a m : ℕ) → a < 2 → m ≤ a → eqb (a - m) 1 ≡ (eqb a 1 && not (eqb m 1))
+bit-less zero zero h l = refl
+bit-less zero (suc m) h l = absurd (let z : ⊥ = omega arith in z)
+bit-less (suc zero) zero h l = refl
+bit-less (suc zero) (suc zero) h l = refl
+bit-less (suc zero) (suc (suc m)) h l = absurd (let z : ⊥ = omega arith in z)
+bit-less (suc (suc a)) m h l = absurd (let z : ⊥ = omega arith in z)
+
+-- ---- the slots of a mask in one word
+
+module _ (slots : ℕ) (o : Occupancy) (r : Right slots o) (i mask : ℕ) (held : Held slots o i mask) where
+  abbrev w : ℕ
+  w = wordOf o i
+
+  abbrev left : Occupancy
+  left = put slots o r i (w - mask) (clearBit (o .summary) i) (o .count - popcount mask) (held .place)
+
+  -- The slots released are taken.
+  pub held-within : Within mask w
+  held-within = record { bits = λ b. ⊎-elim (λ h. inside b h (tested (isSet mask b))) (λ h. omega (arith, bit-past 64 mask b (held .word) h)) (lt-or-le b 64) }
+    where
+      inside : (b : ℕ) → b < 64 → (isSet mask b ≡ true) ⊎ (isSet mask b ≡ false) → bitAt mask b ≤ bitAt w b
+      inside b h (inl e) = omega (arith, bit-lt mask b, set-one w b (held .held b h e .1))
+      inside b h (inr e) = omega (arith, set-none mask b e)
+
+  held-le : mask ≤ w
+  held-le = within-le 64 mask w (held .word) held-within
+
+  -- The bits past the last slot stay set.
+  left-past : (b : ℕ) → b < 64 → slots ≤ i * 64 + b → isSet (w - mask) b ≡ true
+  left-past b h l = ap (λ (z : ℕ). eqb z 1) (sub-bit b mask w held-within held-le ∙ one (bitAt w b) (bitAt mask b) set none)
+    where
+      set : bitAt w b ≡ 1
+      set = set-one w b (sym (slot-taken o i b h) ∙ r .past (i * 64 + b) (omega (arith, held .place)) l)
+
+      none : bitAt mask b ≡ 0
+      none = ⊎-elim (λ e. absurd (let z : ⊥ = omega (arith, held .held b h e .0) in z)) (λ e. set-none mask b e) (tested (isSet mask b))
+
+      one : (a m : ℕ) → a ≡ 1 → m ≡ 0 → a - m ≡ 1
+      one a m p q = omega arith
+
+  -- No more is released than is counted.
+  pub held-most : popcount mask ≤ o .count
+  held-most =
+      omega (
+        arith,
+        total-past slots left (r .within)
+        (put-past slots o r i (w - mask) (clearBit (o .summary) i) (o .count - popcount mask) (held .place) left-past),
+        put-total slots o r i (w - mask) (clearBit (o .summary) i) (o .count - popcount mask) (held .place),
+        count-total slots o r,
+        sub-ones 64 mask w held-within held-le,
+      )
+
+  -- What is left is right, where any is released.
+  left-right : (mask ≡ 0 → ⊥) → Right slots left
+  left-right some =
+      put-right slots o r i (w - mask) (clearBit (o .summary) i) (o .count - popcount mask) (held .place)
+      (lt-of-le-of-lt (sub-le w mask) (r .small i (held .place))) (clear-lt (o .summary) i (r .top))
+      (ap (λ (z : ℕ). eqb z 1) (bit-clear-same (o .summary) i (r .top) (held .place))
+      ∙ sym (ne-eqb (w - mask) allOnes (λ e. some (none w mask (r .small i (held .place)) held-le e))))
+      (λ j h n. ap (λ (z : ℕ). eqb z 1) (bit-clear-other (o .summary) i j (r .top) (held .place) h n))
+      left-past
+      (omega (arith, sub-ones 64 mask w held-within held-le, held-most))
+    where
+      none : (w m : ℕ) → w < 2 ^ 64 → m ≤ w → w - m ≡ 2 ^ 64 - 1 → m ≡ 0
+      none w m hw l e = omega arith
+
+  -- A release by word, by cases.
+  by-word : (P : Occupancy → Type 0) → (mask ≡ 0 → P o) → ((mask ≡ 0 → ⊥) → P left) → P (releaseSlotsByWord o i mask)
+  unfolding releaseSlotsByWord
+  by-word P none some = elim (ℕ-discrete mask 0) [ yes e ↦ rw (eq-eqb mask 0 e) (none e) | no n ↦ rw (ne-eqb mask 0 n) (some n) ]
+
+  -- A release by word keeps the occupancy right.
+  pub word-right : Right slots (releaseSlotsByWord o i mask)
+  word-right = by-word (Right slots) (λ e. r) left-right
+
+  -- It frees the slots of the mask, and no other slot of its word changes.
+  pub word-same : (q : ℕ) → q / 64 ≡ i → isTaken (releaseSlotsByWord o i mask) q ≡ (isTaken o q && not (isSet mask (q % 64)))
+  word-same q e =
+      by-word (λ x. isTaken x q ≡ (isTaken o q && not (isSet mask (q % 64))))
+      (λ z. sym (ap (λ (m : ℕ). isTaken o q && not (isSet m (q % 64))) z ∙ ap (λ (b : ℕ). isTaken o q && not (eqb b 1)) (bit-zero (q % 64)) ∙ and-true (isTaken o q)))
+      (λ n.
+      ap (λ (j : ℕ). isSet (wordOf left j) (q % 64)) e
+      ∙ ap (λ (v : ℕ). isSet v (q % 64)) (put-same slots o r i (w - mask) (clearBit (o .summary) i) (o .count - popcount mask) (held .place))
+      ∙ ap (λ (b : ℕ). eqb b 1) (sub-bit (q % 64) mask w held-within held-le)
+      ∙ bit-less (bitAt w (q % 64)) (bitAt mask (q % 64)) (bit-lt w (q % 64)) (held-within .bits (q % 64))
+      ∙ ap (λ (j : ℕ). isSet (wordOf o j) (q % 64) && not (isSet mask (q % 64))) (sym e))
+
+  -- No slot of another word changes.
+  pub word-other : (q : ℕ) → (q / 64 ≡ i → ⊥) → isTaken (releaseSlotsByWord o i mask) q ≡ isTaken o q
+  word-other q n =
+      by-word (λ x. isTaken x q ≡ isTaken o q) (λ z. refl)
+      (λ z. ap (λ (v : ℕ). isSet v (q % 64)) (put-other slots o r i (w - mask) (clearBit (o .summary) i) (o .count - popcount mask) (held .place) (q / 64) n))
+
+  -- The count falls by as many.
+  pub word-count : releaseSlotsByWord o i mask .count + popcount mask ≡ o .count
+  word-count =
+      by-word (λ x. x .count + popcount mask ≡ o .count) (λ z. ap (λ (m : ℕ). o .count + popcount m) z ∙ zero-count (o .count)) (λ z. omega (arith, held-most))
+    where
+      zero-count : (c : ℕ) → c + popcount 0 ≡ c
+      zero-count c = omega (arith, ones-none 64)
+
+-- A release of no slot changes nothing.
+pub released-none : (o : Occupancy) (i mask : ℕ) → mask ≡ 0 → o ≡ releaseSlotsByWord o i mask
+unfolding releaseSlotsByWord
+released-none o i mask e = rw (eq-eqb mask 0 e) refl
+
+-- The record that the code makes of a release by word.
+pub released : (o : Occupancy) (i mask : ℕ) {s v c : ℕ} → (mask ≡ 0 → ⊥) → s ≡ clearBit (o .summary) i → v ≡ wordOf o i - mask → c ≡ popcount mask
+    → occupancy s (set (o .words) i v) (o .count - c) ≡ releaseSlotsByWord o i mask
+unfolding releaseSlotsByWord
+released o i mask n p q e = rw (ne-eqb mask 0 n) (λ t. occupancy (p t) (set (o .words) i (q t)) (o .count - e t))
+
+-- ---- one slot
+
+module _ (slots : ℕ) (o : Occupancy) (r : Right slots o) (q : ℕ) (inside : q < slots) (taken : isTaken o q ≡ true) where
+  abbrev i : ℕ
+  i = q / 64
+
+  abbrev b : ℕ
+  b = q % 64
+
+  -- A taken slot may be released.
+  pub slot-held : Held slots o i (2 ^ b)
+  slot-held =
+      record {
+        place = omega (arith, r .within);
+        word = pow-lt (mod-lt q (lit< tt));
+        held = λ j h e. at j e (ℕ-discrete j b);
+      }
+    where
+      at : (j : ℕ) → isSet (2 ^ b) j ≡ true → Dec (j ≡ b) → (i * 64 + j < slots) × (isSet (wordOf o i) j ≡ true)
+      at j e (yes s) = (omega arith, ap (isSet (wordOf o i)) s ∙ taken)
+      at j e (no n) = absurd (let z : ⊥ = omega (arith, set-one (2 ^ b) j e, bit-pow-other b j n) in z)
+
+  -- One slot is one bit.
+  slot-ones : popcount (2 ^ b) ≡ 1
+  slot-ones = ones-pow 64 b (mod-lt q (lit< tt))
+
+  -- There is one to count.
+  pub slot-counted : 0 < o .count
+  slot-counted = omega (arith, held-most slots o r i (2 ^ b) slot-held, slot-ones)
+
+  -- A release of a slot is one of a mask.
+  slot-is-word : releaseSlotsByWord o i (2 ^ b) ≡ releaseSlot o q
+  unfolding releaseSlot releaseSlotsByWord
+  slot-is-word =
+      let p : ℕ = 2 ^ b in
+      let e : p ≡ bitAt (wordOf o i) b * p = sym (ap (λ (z : ℕ). z * p) (set-one (wordOf o i) b taken) ∙ one-mul p) in
+      rw (ne-eqb p 0 (λ z. let y : ⊥ = omega (arith, pow-pos b) in y))
+      (λ t. occupancy (clearBit (o .summary) i) (set (o .words) i (wordOf o i - e t)) (o .count - slot-ones t))
+
+  -- A release keeps the occupancy right.
+  pub release-right : Right slots (releaseSlot o q)
+  release-right = subst (Right slots) slot-is-word (word-right slots o r i (2 ^ b) slot-held)
+
+  -- The slot is free.
+  pub release-free : isTaken (releaseSlot o q) q ≡ false
+  release-free =
+      ap (λ (x : Occupancy). isTaken x q) (sym slot-is-word) ∙ word-same slots o r i (2 ^ b) slot-held q refl
+      ∙ ap₂ (λ (x : Bool) (m : ℕ). x && not (eqb m 1)) taken (bit-pow-same b)
+
+  -- No other slot changes.
+  pub release-others : (p : ℕ) → (p ≡ q → ⊥) → isTaken (releaseSlot o q) p ≡ isTaken o p
+  release-others p n = ap (λ (x : Occupancy). isTaken x p) (sym slot-is-word) ∙ go (ℕ-discrete (p / 64) i)
+    where
+      go : Dec (p / 64 ≡ i) → isTaken (releaseSlotsByWord o i (2 ^ b)) p ≡ isTaken o p
+      go (yes e) =
+          word-same slots o r i (2 ^ b) slot-held p e
+          ∙ ap (λ (m : ℕ). isTaken o p && not (eqb m 1)) (bit-pow-other b (p % 64) (λ z. n (let y : p ≡ q = omega arith in y)))
+          ∙ and-true (isTaken o p)
+      go (no m) = word-other slots o r i (2 ^ b) slot-held p m
+
+  -- The count falls by one.
+  pub release-count : releaseSlot o q .count + 1 ≡ o .count
+  release-count =
+      omega (arith, word-count slots o r i (2 ^ b) slot-held, slot-ones, ap (λ (x : Occupancy). x .count) slot-is-word)
+
+-- ---- the fold of pending words
+
+-- The code's loop starts.
+pub fold-start : (o : Occupancy) (pending : List ℕ) → foldFrom 64 0 pending o ≡ foldIn o pending
+unfolding foldIn
+fold-start o pending = refl
+
+-- One turn of the code's loop.
+pub fold-turn : (i : ℕ) (pending : List ℕ) (o o′ x : Occupancy) → i < 64 → foldFrom (64 - i) i pending o ≡ x → o′ ≡ releaseSlotsByWord o i (getD pending i 0)
+    → foldFrom (64 - (i + 1)) (i + 1) pending o′ ≡ x
+unfolding foldFrom
+fold-turn i pending o o′ x h e p =
+    ap₂ (λ (k : ℕ) (y : Occupancy). foldFrom (64 - (i + 1)) k pending y) (add-one i) p
+    ∙ ap (λ (d : ℕ). foldFrom d i pending o) (let f : suc (64 - (i + 1)) ≡ 64 - i = omega arith in f) ∙ e
+
+-- The code's loop ends.
+pub fold-done : (i : ℕ) (pending : List ℕ) (o : Occupancy) → 64 ≤ i → foldFrom (64 - i) i pending o ≡ o
+unfolding foldFrom
+fold-done i pending o h = ap (λ (d : ℕ). foldFrom d i pending o) (let e : 64 - i ≡ 0 = omega arith in e)
+
+-- What the fold of the pending words from word i on leaves.
+record Folded (slots : ℕ) (before : Occupancy) (from : ℕ) (pending : List ℕ) (after : Occupancy) (freed : ℕ) : Type 0 where
+  -- the occupancy stays right
+  pub right : Right slots after
+  -- no slot of a word before changes
+  pub kept : (q : ℕ) → q < from * 64 → isTaken after q ≡ isTaken before q
+  -- the pending slots are free, and no other slot changes
+  pub free : (q : ℕ) → from * 64 ≤ q → q < 4096 → isTaken after q ≡ (isTaken before q && not (isSet (getD pending (q / 64) 0) (q % 64)))
+  -- the count falls by as many
+  pub count : after .count + freed ≡ before .count
+
+module _ (slots : ℕ) (pending : List ℕ) where
+  -- The pending slots of the next word may be released.
+  pub next-held : (o : Occupancy) (i : ℕ) → i < 64 → Pending slots o i pending → Held slots o i (getD pending i 0)
+  next-held o i h p =
+      record {
+        place = h;
+        word = p .small i h;
+        held = λ b l e.
+        let k = p .held (i * 64 + b) (omega arith) (omega arith) (ap₂ (λ (j c : ℕ). isSet (getD pending j 0) c) (slot-word i b l) (slot-bit i b l) ∙ e) in
+        (k .0, sym (slot-taken o i b l) ∙ k .1);
+      }
+
+  -- Those of the words behind it stay pending.
+  pub rest-pending : (o : Occupancy) (i : ℕ) (r : Right slots o) (h : i < 64) (p : Pending slots o i pending) → Pending slots (releaseSlotsByWord o i (getD pending i 0)) (suc i) pending
+  rest-pending o i r h p =
+      record {
+        small = p .small;
+        held = λ q l u e.
+        let k = p .held q (omega arith) u e in
+        (k .0, word-other slots o r i (getD pending i 0) (next-held o i h p) q (λ z. let y : ⊥ = omega arith in y) ∙ k .1);
+      }
+
+  -- Both stand after one turn of the code's loop.
+  pub next-right : (o o′ : Occupancy) (i : ℕ) → i < 64 → Right slots o × Pending slots o i pending → o′ ≡ releaseSlotsByWord o i (getD pending i 0)
+      → ((n : ℕ) × (Right n o′ × Pending n o′ (i + 1) pending))
+  next-right o o′ i h p e =
+      (
+        slots,
+        subst (λ (x : Occupancy). Right slots x × Pending slots x (i + 1) pending) (sym e)
+            (word-right slots o (p .0) i (getD pending i 0) (next-held o i h (p .1)), rw add-one (rest-pending o i (p .0) h (p .1))),
+      )
+
+  -- The fold, word by word.
+  fold-from : (d i : ℕ) (o : Occupancy) → i + d ≡ 64 → Right slots o → Pending slots o i pending → Folded slots o i pending (foldFrom d i pending o) (sum d (λ j. popcount (getD pending (i + j) 0)))
+  unfolding foldFrom sum
+  fold-from zero i o e r p =
+      record {
+        right = r;
+        kept = λ q h. refl;
+        free = λ q l h. absurd (let z : ⊥ = omega arith in z);
+        count = omega arith;
+      }
+  fold-from (suc d) i o e r p =
+      let h : i < 64 = omega arith in
+      let m : ℕ = getD pending i 0 in
+      let held : Held slots o i m = next-held o i h p in
+      turn d i o h r held
+      (fold-from d (suc i) (releaseSlotsByWord o i m) (omega arith) (word-right slots o r i m held) (rest-pending o i r h p))
+    where
+      turn : (d i : ℕ) (o : Occupancy) (h : i < 64) (r : Right slots o) (held : Held slots o i (getD pending i 0)) → Folded slots (releaseSlotsByWord o i (getD pending i 0)) (suc i) pending (foldFrom d (suc i) pending (releaseSlotsByWord o i (getD pending i 0))) (sum d (λ j. popcount (getD pending (suc i + j) 0)))
+          → Folded slots o i pending (foldFrom d (suc i) pending (releaseSlotsByWord o i (getD pending i 0))) (sum (suc d) (λ j. popcount (getD pending (i + j) 0)))
+      turn d i o h r held rest =
+          let m : ℕ = getD pending i 0 in
+          record {
+            right = rest .right;
+            kept = λ q l. rest .kept q (omega arith) ∙ word-other slots o r i m held q (λ z. let y : ⊥ = omega arith in y);
+            free =
+                λ q l u.
+                elim (decLt q (suc i * 64)) [
+                  | yes y ↦
+                    let z : q / 64 ≡ i = omega arith in
+                    rest .kept q y ∙ word-same slots o r i m held q z
+                        ∙ ap (λ (j : ℕ). isTaken o q && not (isSet (getD pending j 0) (q % 64))) (sym z)
+                  | no y ↦
+                    rest .free q (omega arith) u
+                        ∙ ap (λ (x : Bool). x && not (isSet (getD pending (q / 64) 0) (q % 64)))
+                        (word-other slots o r i m held q (λ z. let y : ⊥ = omega arith in y))
+                ];
+            count =
+                omega (
+                  arith,
+                  rest .count,
+                  word-count slots o r i m held,
+                  sum-split 1 d (λ j. popcount (getD pending (i + j) 0)),
+                  ap (λ (z : ℕ). sum z (λ j. popcount (getD pending (i + j) 0))) (let y : 1 + d ≡ suc d = omega arith in y),
+                  sum-same d (λ j. popcount (getD pending (i + (1 + j)) 0)) (λ j. popcount (getD pending (suc i + j) 0))
+                  (λ j l. ap (λ (z : ℕ). popcount (getD pending z 0)) (let y : i + (1 + j) ≡ suc i + j = omega arith in y)),
+                  ap (λ (z : ℕ). popcount (getD pending z 0)) (let y : i + 0 ≡ i = omega arith in y),
+                );
+          }
+
+  module _ (o : Occupancy) (r : Right slots o) (p : Pending slots o 0 pending) where
+    whole : Folded slots o 0 pending (foldIn o pending) (sum 64 (λ j. popcount (getD pending (0 + j) 0)))
+    unfolding foldIn
+    whole = fold-from 64 0 o refl r p
+
+    -- The fold of pending words keeps the occupancy right.
+    pub fold-right : Right slots (foldIn o pending)
+    fold-right = whole .right
+
+    -- It frees the pending slots, and no other slot changes.
+    pub fold-taken : (q : ℕ) → q < 4096 → isTaken (foldIn o pending) q ≡ (isTaken o q && not (isSet (getD pending (q / 64) 0) (q % 64)))
+    fold-taken q h = whole .free q (omega arith) h
+
+    -- The count falls by as many.
+    pub fold-count : foldIn o pending .count + sum 64 (λ j. popcount (getD pending j 0)) ≡ o .count
+    fold-count = sym (λ t. foldIn o pending .count + sum 64 (λ j. popcount (getD pending (zero-add j t) 0))) ∙ whole .count
