@@ -1,3 +1,16 @@
+-- `Occupancy::claim_up_to` meets its contract: the first clear bit of the summary is the first word with room. Assumes nothing.
+use mathlib.Core.Bool.{Bool, cond}
+use mathlib.Core.Logic.{⊎-elim}
+use mathlib.Core.Path.{sym, ap, _∙_}
+use Prim.Native.Nat.{ℕ, _+_, _-_, _^_}
+use native.Mathlib.Omega.{arith}
+use lib.Bits.{bitOr}
+use borrow.Author.Tests.{eq-eqb, ne-eqb, eqb-true, eqb-false}
+use Rattle.laws.specs.Word.{allOnes, setBit}
+use Rattle.laws.proofs.WordLaws.{ones-most}
+use Rattle.occupancy.specs.Occupied.{wordOf}
+use Rattle.occupancy.proofs.RightLaws.{count-most}
+use Rattle.occupancy.proofs.ClaimLaws.{claim-none, claim-full, claim-made}
 use borrow.Author.Needs.{needs}
 use Rattle.occupancy.proofs.Occupancy.claim_up_to.Statement.{statement}
 use Rattle.occupancy.proofs.Occupancy.claim_up_to.Tie as tie
@@ -10,11 +23,15 @@ use Rattle.occupancy.proofs.window.Reads as window-reads
 
 -- src/lib.rt:83:13
 returns : tie.Need-returns
-returns c = ?
+returns c =
+    let s = c .before in
+    let a = s .args in
+    ⊎-elim (λ w. sym (claim-none (a .self) (a .max) (a .random) (w .taken)))
+    (λ w. sym (claim-full (s .pre .0) (a .self) (s .pre .1) (a .max) (a .random) (eqb-true (a .self .summary) allOnes (w .1 .taken)))) (c .if1 .came)
 
 -- src/lib.rt:88:13
 free-word-requires : tie.Need-free-word-requires
-free-word-requires c κs = ?
+free-word-requires c κs = omega (arith, c .before .before .pre .1 .top, eqb-false (c .before .before .args .self .summary) allOnes (c .if2 .left))
 
 -- src/lib.rt:90:20
 mul-word : tie.Need-mul-word
@@ -42,7 +59,10 @@ count-requires c κs = search needs
 
 -- src/lib.rt:94:21
 add-count : tie.Need-add-count
-add-count c = ?
+add-count c =
+    let s = c .before .before .before .before .before .before .before in
+    let r = s .pre .1 in
+    omega (arith, count-most (s .pre .0) (s .args .self) r, r .within, c .before .count .ensures, ones-most 64 (c .before .before .window .result))
 
 -- src/lib.rt:96:13
 set-bit-requires : tie.Need-set-bit-requires
@@ -50,11 +70,31 @@ set-bit-requires c κs = search needs
 
 -- src/lib.rt:77:5
 returns-2 : tie.Need-returns-2
-returns-2 c = ?
+returns-2 c =
+    let s = c .before .before .before .before .before .before .before .before .before in
+    let o = s .args .self in
+    let word = c .before .before .before .before .before .before .free-word in
+    let mask = c .before .before .before .before .window in
+    let count = c .before .before .before .count in
+    claim-made (s .pre .0) o (s .pre .1) (s .args .max) (s .args .random) (word .result) (mask .result) (c .set-bit .result) (o .count + count .result)
+    (c .before .before .before .before .before .before .before .before .if1 .left)
+    (omega (arith, s .pre .1 .top, eqb-false (o .summary) allOnes (c .before .before .before .before .before .before .before .if2 .left))) (word .ensures) (mask .ensures)
+    (c .set-bit .ensures ∙ sym (ap (λ (b : Bool). cond b (setBit (o .summary) (word .result)) (o .summary)) (eq-eqb (bitOr (wordOf o (word .result)) (mask .result)) allOnes (c .before .if3 .taken))))
+    (ap (λ (z : ℕ). o .count + z) (count .ensures))
 
 -- src/lib.rt:77:5
 returns-3 : tie.Need-returns-3
-returns-3 c = ?
+returns-3 c =
+    let s = c .before .before .before .before .before .before .before .before in
+    let o = s .args .self in
+    let word = c .before .before .before .before .before .free-word in
+    let mask = c .before .before .before .window in
+    let count = c .before .before .count in
+    claim-made (s .pre .0) o (s .pre .1) (s .args .max) (s .args .random) (word .result) (mask .result) (o .summary) (o .count + count .result)
+    (c .before .before .before .before .before .before .before .if1 .left)
+    (omega (arith, s .pre .1 .top, eqb-false (o .summary) allOnes (c .before .before .before .before .before .before .if2 .left))) (word .ensures) (mask .ensures)
+    (sym (ap (λ (b : Bool). cond b (setBit (o .summary) (word .result)) (o .summary)) (ne-eqb (bitOr (wordOf o (word .result)) (mask .result)) allOnes (c .if3 .left))))
+    (ap (λ (z : ℕ). o .count + z) (count .ensures))
 
 pub claim-up-to-spec : {M : Type 1} → statement M
 claim-up-to-spec =
