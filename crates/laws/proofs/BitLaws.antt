@@ -3,7 +3,7 @@ use mathlib.Core.Path.{_≡_, refl, sym, ap, ap₂, subst, _∙_}
 use mathlib.Core.Logic.{_⊎_, inl, inr}
 use mathlib.Core.Bool.{true, false, true≢false, not, cond}
 use Prim.Native.Nat.{ℕ, zero, suc, _+_, _-_, _*_, _/_, _%_, _^_, _≤_, _<_, min, max}
-use native.Mathlib.Nat.{min-zero, div-self, zero-add, zero-div, zero-mul, div-eq-of-lt, pow-suc, add-mul-div-right, mul-assoc, div-one, div-add-mod', mod-lt, mod-eq-of-lt, one-mul, lt-of-lt-of-le, lt-of-le-of-lt, sub-le, le-of-suc-le-suc}
+use native.Mathlib.Nat.{min-zero, div-self, zero-add, zero-div, zero-mul, div-eq-of-lt, pow-suc, add-mul-div-right, mul-assoc, div-one, div-add-mod', mod-lt, mod-eq-of-lt, one-mul, lt-of-lt-of-le, lt-of-le-of-lt, sub-le}
 use native.Mathlib.Numerals.{one-add}
 use native.Mathlib.Decide.{decLt}
 use native.Mathlib.Omega.{arith}

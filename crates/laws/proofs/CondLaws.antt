@@ -17,8 +17,3 @@ or-true false = refl
 pub and-true : (b : Bool) → b && true ≡ b
 and-true true = refl
 and-true false = refl
-
--- A second that fails is enough.
-pub and-false : (b : Bool) → b && false ≡ false
-and-false true = refl
-and-false false = refl

@@ -1,4 +1,5 @@
 pub mod BitLaws
+pub mod CellLaws
 pub mod CondLaws
 pub mod Division
 pub mod FirstLaws

@@ -1,6 +1,6 @@
 -- Two words bit by bit: one that holds the bits of another, and two that share none; their difference, sum and counts. Assumes nothing.
 use mathlib.Core.Path.{_≡_, refl, sym, ap, ap₂, _∙_}
-use Prim.Native.Nat.{ℕ, zero, suc, _+_, _-_, _*_, _/_, _%_, _^_, _<_, _≤_, min}
+use Prim.Native.Nat.{ℕ, zero, suc, _+_, _-_, _/_, _%_, _^_, _<_, _≤_, min}
 use native.Mathlib.Omega.{arith}
 use native.Mathlib.Nat.{pow-suc, lt-of-le-of-lt}
 use lib.Pow.{pow-pos}
@@ -8,7 +8,7 @@ use lib.Bits.{bitAnd, bitOr, and-le-l, or-disjoint}
 use lib.Count.{onesIn}
 use Rattle.laws.specs.Word.{bitAt}
 use Rattle.laws.proofs.WordLaws.{and-not}
-use Rattle.laws.proofs.BitLaws.{bit-lt, bit-zero, bit-first, bit-next, bit-ext, bit-and}
+use Rattle.laws.proofs.BitLaws.{bit-zero, bit-first, bit-next, bit-ext, bit-and}
 
 -- Each bit of x is a bit of y.
 pub record Within (x y : ℕ) : Type 0 where

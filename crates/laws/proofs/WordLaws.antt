@@ -1,13 +1,13 @@
 -- Words digit by digit: a number is q * 2 or q * 2 + 1, and each operation and each count goes so. Assumes nothing.
 use mathlib.Core.Path.{_≡_, refl, sym, ap, ap₂, subst, _∙_}
-use Prim.Native.Nat.{ℕ, zero, suc, _+_, _-_, _*_, _/_, _%_, _^_, _≤_, _<_, min, max}
+use Prim.Native.Nat.{ℕ, zero, suc, _+_, _-_, _*_, _/_, _%_, _^_, _≤_, _<_, min}
 use native.Mathlib.Nat.{mul-mod-left, div-add-mod', pow-suc, mod-lt, add-zero}
 use native.Mathlib.Omega.{arith}
 use native.Mathlib.Numerals.{add-one}
 use lib.Dec.{lit<}
 use lib.Pow.{pow-pos, split, mod-pow-add, shl-shr}
 use lib.Bits.{bitAnd, and-block, and-self, and-mask, and-zero-r, and-step}
-use lib.Count.{ones, onesIn, ones-step, ones-cat, ones-le}
+use lib.Count.{ones, onesIn, ones-step}
 
 -- A number by its lowest digit.
 pub data Digit : ℕ → Type 0 where

@@ -1,14 +1,14 @@
 -- A claim by its cases; it keeps one span's occupancy right, takes free slots of one word and nothing else, and finds nothing exactly when none is wanted
 -- or all are taken. Assumes nothing.
 use mathlib.Core.Path.{_≡_, refl, sym, ap, ap₂, subst, _∙_}
-use mathlib.Core.Bool.{Bool, true, false, true≢false, _||_, cond}
+use mathlib.Core.Bool.{Bool, true, false, _||_, cond}
 use mathlib.Core.Logic.{_⊎_, inl, inr, ⊎-elim}
-use Prim.Native.Nat.{ℕ, zero, suc, _+_, _-_, _*_, _/_, _%_, _^_, _≤_, _<_, min}
+use Prim.Native.Nat.{ℕ, _+_, _-_, _*_, _/_, _%_, _^_, _≤_, _<_}
 use native.Mathlib.Nat.{mod-lt}
 use native.Mathlib.Decide.{ℕ-discrete, decLt}
 use native.Mathlib.Omega.{arith}
 use lib.Dec.{eqb, leb, lit<}
-use lib.ListN.{getD, set}
+use lib.ListN.{set}
 use lib.Pow.{ones-sub-lt}
 use lib.Bits.{bitOr}
 use lib.Count.{onesIn}
@@ -16,14 +16,12 @@ use borrow.Author.Tests.{eq-eqb, ne-eqb, le-leb, lt-leb}
 use Rattle.laws.specs.Choice.{sum}
 use Rattle.laws.specs.Word.{allOnes, bitAt, isSet, setBit, popcount}
 use Rattle.laws.proofs.CondLaws.{cond-both, or-true}
-use Rattle.laws.proofs.FirstLaws.{tested}
 use Rattle.laws.proofs.SumLaws.{sum-same}
 use Rattle.laws.proofs.WordLaws.{ones-some}
-use Rattle.laws.proofs.BitLaws.{bit-lt, bit-set-same, bit-set-other, set-lt, set-one, set-none}
+use Rattle.laws.proofs.BitLaws.{bit-set-same, bit-set-other, set-lt, set-one, set-none}
 use Rattle.laws.proofs.MaskLaws.{Apart, add-bit, add-ones, add-lt, apart-or}
 use Rattle.occupancy.specs.declared.Occupancy.{Occupancy}
 use Rattle.occupancy.specs.declared.Claim.{Claim}
-use Rattle.occupancy.specs.declared.Claimed.{Claimed}
 use Rattle.occupancy.specs.declared.Claimed.the-variants.{Nothing, Taken}
 use Rattle.occupancy.specs.Occupied.{occupancy, wordOf, firstRoom, windowOf, nothing, taking, claimIn, claim}
 use Rattle.occupancy.specs.Right.{isTaken, Right, Took, firstClear}

@@ -1,17 +1,17 @@
--- The words of a fresh span: one a turn of the code, each bit, and how many are set. Assumes nothing.
+-- The words of a fresh span: each bit, and how the code fills them. Assumes nothing.
 use mathlib.Core.Path.{_≡_, refl, sym, ap, ap₂, _∙_}
-use mathlib.Core.Bool.{Bool, true, false}
-use mathlib.Core.List.{List, [], _∷_, _++_, append-nil}
-use Prim.Native.Nat.{ℕ, zero, suc, _+_, _-_, _*_, _%_, _^_, _≤_, _<_, min}
+use mathlib.Core.List.{List}
+use mathlib.Core.Logic.{⊎-elim}
+use Prim.Native.Nat.{ℕ, zero, suc, _+_, _-_, _*_, _/_, _%_, _^_, _≤_, _<_, min}
 use native.Mathlib.Nat.{add-zero, sub-zero}
-use native.Mathlib.Numerals.{add-one}
 use native.Mathlib.Omega.{arith}
 use lib.Dec.{lit<}
-use lib.ListN.{length, getD, set, drop, drop-of-length-le}
-use lib.Seq.{sets, sets-eq}
+use lib.ListN.{length, getD, set, length-set, replicate, getD-replicate}
+use lib.Seq.{ext-getD}
 use lib.Pow.{pow-pos, pow-mono, pow-sub-lt, high-ones}
 use Rattle.laws.specs.Word.{allOnes, bitAt}
-use Rattle.laws.proofs.BitLaws.{bit-zero, bit-ones, bit-cat-low, bit-cat-high}
+use Rattle.laws.proofs.CellLaws.{set-at}
+use Rattle.laws.proofs.BitLaws.{lt-or-le, bit-zero, bit-ones, bit-cat-low, bit-cat-high}
 use Rattle.occupancy.specs.Occupied.{freshWords}
 
 -- A fresh span has so many words.
@@ -19,26 +19,6 @@ pub fresh-length : (d n : ℕ) → length (freshWords d n) ≡ d
 unfolding freshWords
 fresh-length zero n = refl
 fresh-length (suc d) n = ap suc (fresh-length d (n - 64))
-
--- A run of stores over the whole list.
-pub sets-all : (l vs : List ℕ) → length vs ≡ length l → sets l 0 vs ≡ vs
-sets-all l vs e =
-    sets-eq vs l 0 (omega arith)
-    ∙ ap (λ (t : List ℕ). vs ++ t) (drop-of-length-le l {i = 0 + length vs} (omega arith)) ∙ append-nil vs
-
--- No word is left behind the last.
-pub fresh-done : (i n : ℕ) → 64 ≤ i → freshWords (64 - i) n ≡ []
-unfolding freshWords
-fresh-done i n h = ap (λ (d : ℕ). freshWords d n) (let e : 64 - i ≡ 0 = omega arith in e)
-
--- One turn of the code's loop: a word is stored, and 64 slots less are left.
-pub fresh-turn : (i n m v : ℕ) (words words′ r : List ℕ) → i < 64 → sets words i (freshWords (64 - i) n) ≡ r
-    → words′ ≡ set words i v → v ≡ 2 ^ 64 - 2 ^ min n 64 → m ≡ n - 64 → sets words′ (i + 1) (freshWords (64 - (i + 1)) m) ≡ r
-unfolding freshWords
-fresh-turn i n m v words words′ r h e p q t =
-    ap₂ (λ (l : List ℕ) (k : ℕ). sets l k (freshWords (64 - (i + 1)) m)) (p ∙ ap (set words i) q) (add-one i)
-    ∙ ap (λ (k : ℕ). sets (set words i (2 ^ 64 - 2 ^ min n 64)) (suc i) (freshWords (64 - (i + 1)) k)) t
-    ∙ ap (λ (d : ℕ). sets words i (freshWords d n)) (let f : suc (64 - (i + 1)) ≡ 64 - i = omega arith in f) ∙ e
 
 -- ---- the bits
 
@@ -75,3 +55,66 @@ unfolding freshWords
 fresh-small zero n i = lit< tt
 fresh-small (suc d) n zero = pow-sub-lt 64 (pow-pos (min n 64))
 fresh-small (suc d) n (suc i) = fresh-small d (n - 64) i
+
+-- ---- the code fills them
+
+-- What the loop has done: the words from `full` on are all ones, up to word i.
+pub record Filled (full i : ℕ) (words : List ℕ) : Type 0 where
+  pub long : length words ≡ 64
+  pub free : (k : ℕ) → k < full → getD words k 0 ≡ 0
+  pub ones : (k : ℕ) → full ≤ k → k < i → getD words k 0 ≡ allOnes
+
+-- The loop starts.
+pub filled-start : (full : ℕ) → full ≤ 64 → Filled full full (replicate 64 0)
+filled-start full h =
+    record {
+      long = refl;
+      free = λ k l. getD-replicate 64 k 0 0 (omega arith);
+      ones = λ k l u. absurd (let z : ⊥ = omega arith in z);
+    }
+
+-- One turn of the loop.
+pub filled-turn : (full i : ℕ) (words : List ℕ) → full ≤ i → i < 64 → Filled full i words → Filled full (i + 1) (set words i allOnes)
+filled-turn full i words l h f =
+    record {
+      long = length-set words i allOnes ∙ f .long;
+      free =
+          set-at (λ k z. k < full → z ≡ 0) words i allOnes (omega (arith, f .long)) (λ u. absurd (let z : ⊥ = omega arith in z))
+          (λ k n. f .free k);
+      ones =
+          set-at (λ k z. full ≤ k → k < i + 1 → z ≡ allOnes) words i allOnes (omega (arith, f .long)) (λ u v. refl)
+          (λ k n u v. f .ones k u (let z : k < i = omega (arith, n) in z));
+    }
+
+-- A word of a fresh span by its place.
+fresh-free-word : (n k : ℕ) → k < 64 → k < n / 64 → 0 ≡ getD (freshWords 64 n) k 0
+fresh-free-word n k h l = sym (fresh-at 64 n k h ∙ ap (λ (z : ℕ). 2 ^ 64 - 2 ^ z) (let e : min (n - 64 * k) 64 ≡ 64 = omega arith in e))
+
+fresh-partial-word : (n : ℕ) → n / 64 < 64 → 2 ^ 64 - 2 ^ (n % 64) ≡ getD (freshWords 64 n) (n / 64) 0
+fresh-partial-word n h =
+    sym (fresh-at 64 n (n / 64) h ∙ ap (λ (z : ℕ). 2 ^ 64 - 2 ^ z) (let e : min (n - 64 * (n / 64)) 64 ≡ n % 64 = omega arith in e))
+
+fresh-full-word : (n k : ℕ) → k < 64 → n / 64 < k → allOnes ≡ getD (freshWords 64 n) k 0
+fresh-full-word n k h l = sym (fresh-at 64 n k h ∙ ap (λ (z : ℕ). 2 ^ 64 - 2 ^ z) (let e : min (n - 64 * k) 64 ≡ 0 = omega arith in e))
+
+module _ (n i : ℕ) (words : List ℕ) (hi : 64 ≤ i) (f : Filled (n / 64) i words) where
+  -- The loop ends, and there is no partial word.
+  pub filled-whole : 64 ≤ n / 64 → words ≡ freshWords 64 n
+  filled-whole h =
+      ext-getD 0 words (freshWords 64 n) (f .long ∙ sym (fresh-length 64 n))
+      (λ k l.
+      let hk : k < 64 = omega (arith, f .long) in
+      f .free k (omega arith) ∙ fresh-free-word n k hk (omega arith))
+
+  -- The loop ends, and the partial word is stored.
+  pub filled-partial : n / 64 < 64 → set words (n / 64) (2 ^ 64 - 2 ^ (n % 64)) ≡ freshWords 64 n
+  filled-partial h =
+      ext-getD 0 (set words (n / 64) (2 ^ 64 - 2 ^ (n % 64))) (freshWords 64 n)
+      (length-set words (n / 64) (2 ^ 64 - 2 ^ (n % 64)) ∙ f .long ∙ sym (fresh-length 64 n))
+      (λ k l.
+      set-at (λ k z. k < 64 → z ≡ getD (freshWords 64 n) k 0) words (n / 64) (2 ^ 64 - 2 ^ (n % 64)) (omega (arith, f .long))
+      (λ u. fresh-partial-word n h)
+      (λ k m u.
+      ⊎-elim (λ v. f .free k v ∙ fresh-free-word n k u v)
+      (λ v. f .ones k v (omega arith) ∙ fresh-full-word n k u (let z : n / 64 < k = omega (arith, m) in z)) (lt-or-le k (n / 64)))
+      k (omega (arith, length-set words (n / 64) (2 ^ 64 - 2 ^ (n % 64)), f .long)))

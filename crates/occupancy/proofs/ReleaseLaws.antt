@@ -1,7 +1,7 @@
 -- A release keeps one span's occupancy right, frees what it names and nothing else, and the count follows; so does the fold of pending frees.
 -- Assumes nothing.
 use mathlib.Core.Path.{_≡_, refl, sym, ap, ap₂, subst, _∙_}
-use mathlib.Core.Bool.{Bool, true, false, true≢false, _&&_, not}
+use mathlib.Core.Bool.{Bool, true, false, _&&_, not}
 use mathlib.Core.List.{List}
 use mathlib.Core.Logic.{_⊎_, inl, inr, ⊎-elim}
 use Prim.Native.Nat.{ℕ, zero, suc, _+_, _-_, _*_, _/_, _%_, _^_, _≤_, _<_}
@@ -24,7 +24,7 @@ use Rattle.laws.proofs.MaskLaws.{Within, within-le, sub-bit, sub-ones}
 use Rattle.occupancy.specs.declared.Occupancy.{Occupancy}
 use Rattle.occupancy.specs.Occupied.{occupancy, wordOf, releaseSlot, releaseSlotsByWord, foldFrom, foldIn}
 use Rattle.occupancy.specs.Right.{isTaken, Right, Held, Pending}
-use Rattle.occupancy.proofs.RightLaws.{slot-word, slot-bit, slot-taken, total, total-past, count-total, put, put-same, put-other, put-total, put-past, put-right}
+use Rattle.occupancy.proofs.RightLaws.{slot-word, slot-bit, slot-taken, total-past, count-total, put, put-same, put-other, put-total, put-past, put-right}
 
 -- A bit without another that is not above it, as tests.
 bit-less : (a m : ℕ) → a < 2 → m ≤ a → eqb (a - m) 1 ≡ (eqb a 1 && not (eqb m 1))
@@ -74,7 +74,7 @@ module _ (slots : ℕ) (o : Occupancy) (r : Right slots o) (i mask : ℕ) (held 
       omega (
         arith,
         total-past slots left (r .within)
-        (put-past slots o r i (w - mask) (clearBit (o .summary) i) (o .count - popcount mask) (held .place) left-past),
+            (put-past slots o r i (w - mask) (clearBit (o .summary) i) (o .count - popcount mask) (held .place) left-past),
         put-total slots o r i (w - mask) (clearBit (o .summary) i) (o .count - popcount mask) (held .place),
         count-total slots o r,
         sub-ones 64 mask w held-within held-le,
@@ -244,8 +244,8 @@ module _ (slots : ℕ) (pending : List ℕ) where
         place = h;
         word = p .small i h;
         held = λ b l e.
-        let k = p .held (i * 64 + b) (omega arith) (omega arith) (ap₂ (λ (j c : ℕ). isSet (getD pending j 0) c) (slot-word i b l) (slot-bit i b l) ∙ e) in
-        (k .0, sym (slot-taken o i b l) ∙ k .1);
+            let k = p .held (i * 64 + b) (omega arith) (omega arith) (ap₂ (λ (j c : ℕ). isSet (getD pending j 0) c) (slot-word i b l) (slot-bit i b l) ∙ e) in
+            (k .0, sym (slot-taken o i b l) ∙ k .1);
       }
 
   -- Those of the words behind it stay pending.
@@ -254,19 +254,18 @@ module _ (slots : ℕ) (pending : List ℕ) where
       record {
         small = p .small;
         held = λ q l u e.
-        let k = p .held q (omega arith) u e in
-        (k .0, word-other slots o r i (getD pending i 0) (next-held o i h p) q (λ z. let y : ⊥ = omega arith in y) ∙ k .1);
+            let k = p .held q (omega arith) u e in
+            (k .0, word-other slots o r i (getD pending i 0) (next-held o i h p) q (λ z. let y : ⊥ = omega arith in y) ∙ k .1);
       }
 
   -- Both stand after one turn of the code's loop.
   pub next-right : (o o′ : Occupancy) (i : ℕ) → i < 64 → Right slots o × Pending slots o i pending → o′ ≡ releaseSlotsByWord o i (getD pending i 0)
       → ((n : ℕ) × (Right n o′ × Pending n o′ (i + 1) pending))
-  next-right o o′ i h p e =
-      (
-        slots,
-        subst (λ (x : Occupancy). Right slots x × Pending slots x (i + 1) pending) (sym e)
-            (word-right slots o (p .0) i (getD pending i 0) (next-held o i h (p .1)), rw add-one (rest-pending o i (p .0) h (p .1))),
-      )
+  next-right o o′ i h p e = (
+    slots,
+    subst (λ (x : Occupancy). Right slots x × Pending slots x (i + 1) pending) (sym e)
+        (word-right slots o (p .0) i (getD pending i 0) (next-held o i h (p .1)), rw add-one (rest-pending o i (p .0) h (p .1))),
+  )
 
   -- The fold, word by word.
   fold-from : (d i : ℕ) (o : Occupancy) → i + d ≡ 64 → Right slots o → Pending slots o i pending → Folded slots o i pending (foldFrom d i pending o) (sum d (λ j. popcount (getD pending (i + j) 0)))
@@ -296,13 +295,13 @@ module _ (slots : ℕ) (pending : List ℕ) where
                 λ q l u.
                 elim (decLt q (suc i * 64)) [
                   | yes y ↦
-                    let z : q / 64 ≡ i = omega arith in
-                    rest .kept q y ∙ word-same slots o r i m held q z
-                        ∙ ap (λ (j : ℕ). isTaken o q && not (isSet (getD pending j 0) (q % 64))) (sym z)
+                      let z : q / 64 ≡ i = omega arith in
+                      rest .kept q y ∙ word-same slots o r i m held q z
+                      ∙ ap (λ (j : ℕ). isTaken o q && not (isSet (getD pending j 0) (q % 64))) (sym z)
                   | no y ↦
-                    rest .free q (omega arith) u
-                        ∙ ap (λ (x : Bool). x && not (isSet (getD pending (q / 64) 0) (q % 64)))
-                        (word-other slots o r i m held q (λ z. let y : ⊥ = omega arith in y))
+                      rest .free q (omega arith) u
+                      ∙ ap (λ (x : Bool). x && not (isSet (getD pending (q / 64) 0) (q % 64)))
+                      (word-other slots o r i m held q (λ z. let y : ⊥ = omega arith in y))
                 ];
             count =
                 omega (
@@ -312,7 +311,7 @@ module _ (slots : ℕ) (pending : List ℕ) where
                   sum-split 1 d (λ j. popcount (getD pending (i + j) 0)),
                   ap (λ (z : ℕ). sum z (λ j. popcount (getD pending (i + j) 0))) (let y : 1 + d ≡ suc d = omega arith in y),
                   sum-same d (λ j. popcount (getD pending (i + (1 + j)) 0)) (λ j. popcount (getD pending (suc i + j) 0))
-                  (λ j l. ap (λ (z : ℕ). popcount (getD pending z 0)) (let y : i + (1 + j) ≡ suc i + j = omega arith in y)),
+                      (λ j l. ap (λ (z : ℕ). popcount (getD pending z 0)) (let y : i + (1 + j) ≡ suc i + j = omega arith in y)),
                   ap (λ (z : ℕ). popcount (getD pending z 0)) (let y : i + 0 ≡ i = omega arith in y),
                 );
           }

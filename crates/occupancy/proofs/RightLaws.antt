@@ -1,19 +1,18 @@
 -- One span's occupancy stays right where one word, the summary and the count change together; and a fresh one is right. Assumes nothing.
 use mathlib.Core.Path.{_≡_, refl, sym, ap, ap₂, subst, _∙_}
 use mathlib.Core.Bool.{Bool, true, false, cond}
-use mathlib.Core.List.{List}
 use mathlib.Core.Logic.{_⊎_, inl, inr}
 use Prim.Native.Nat.{ℕ, zero, suc, _+_, _-_, _*_, _/_, _%_, _^_, _≤_, _<_, min}
 use native.Mathlib.Nat.{min-le-right, mod-lt}
-use native.Mathlib.Decide.{ℕ-discrete}
 use native.Mathlib.Omega.{arith}
 use lib.Dec.{eqb, lit<}
 use lib.ListN.{length, getD, set, length-set}
 use lib.Seq.{getD-set-same, getD-set-other}
 use lib.Pow.{pow-pos, pow-sub-lt}
-use borrow.Author.Tests.{eq-eqb, ne-eqb}
+use borrow.Author.Tests.{ne-eqb}
 use Rattle.laws.specs.Choice.{sum}
 use Rattle.laws.specs.Word.{allOnes, bitAt, isSet, popcount}
+use Rattle.laws.proofs.CellLaws.{set-at}
 use Rattle.laws.proofs.SumLaws.{sum-same, sum-split, sum-ones, sum-none, sum-most, sum-put}
 use Rattle.laws.proofs.BitLaws.{lt-or-le, bit-cond, ones-sum}
 use Rattle.occupancy.specs.declared.Occupancy.{Occupancy}
@@ -60,7 +59,7 @@ module _ (slots : ℕ) (o : Occupancy) (within : slots ≤ 4096) (past : (q : �
         ap (takenBelow o) e,
         sum-split slots (4096 - slots) (λ q. cond (isTaken o q) 1 0),
         sum-ones (4096 - slots) (λ i. cond (isTaken o (slots + i)) 1 0)
-        (λ i h. ap (λ (t : Bool). cond t 1 0) (past (slots + i) (omega arith) (omega arith))),
+            (λ i h. ap (λ (t : Bool). cond t 1 0) (past (slots + i) (omega arith) (omega arith))),
       )
 
   -- There are at least as many set bits as bits past the last slot.
@@ -82,14 +81,6 @@ module _ (slots : ℕ) (o : Occupancy) (r : Right slots o) where
   count-most = omega (arith, r .counted, sum-most slots (λ q. cond (isTaken o q) 1 0) (λ q. one-most (isTaken o q)))
 
 -- ---- one word stored
-
--- What holds of v at i, and elsewhere of what was there, holds everywhere after the store.
-pub set-at : (P : ℕ → ℕ → Type 0) (l : List ℕ) (i v : ℕ) → i < length l → P i v → ((j : ℕ) → (j ≡ i → ⊥) → P j (getD l j 0)) → (j : ℕ) → P j (getD (set l i v) j 0)
-set-at P l i v h here there j = go (ℕ-discrete j i)
-  where
-    go : Dec (j ≡ i) → P j (getD (set l i v) j 0)
-    go (yes e) = subst (λ (k : ℕ). P k (getD (set l i v) k 0)) (sym e) (subst (P i) (sym (getD-set-same l i v 0 h)) here)
-    go (no n) = subst (P j) (sym (getD-set-other l i j v 0 n)) (there j n)
 
 module _ (slots : ℕ) (o : Occupancy) (r : Right slots o) (i v s c : ℕ) (h : i < 64) where
   -- word i is v, and the summary and the count are s and c

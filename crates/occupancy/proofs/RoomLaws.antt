@@ -1,5 +1,5 @@
 -- The first word with room: a scan of the words, a scan of the summary's bits, and the code's rotation and count of zeros come to one. Assumes nothing.
-use mathlib.Core.Path.{_≡_, refl, sym, ap, _∙_}
+use mathlib.Core.Path.{_≡_, sym, ap, _∙_}
 use mathlib.Core.Bool.{Bool, true, false, not}
 use mathlib.Core.Logic.{⊎-elim}
 use mathlib.Core.List.{List}
@@ -13,12 +13,12 @@ use lib.Count.{trailingZeros}
 use borrow.Author.Tests.{not-false, eqb-true, eqb-false, not-true}
 use Rattle.laws.specs.First.{first}
 use Rattle.laws.specs.Word.{allOnes, bitAt, isSet}
-use Rattle.laws.proofs.FirstLaws.{tested, first-le, first-is, first-before}
+use Rattle.laws.proofs.FirstLaws.{tested, first-is, first-before}
 use Rattle.laws.proofs.BitLaws.{bit-not, bit-lt, bit-ones, trailing-below, trailing-at}
 use Rattle.bits.specs.Rotated.{rotatedRight}
 use Rattle.bits.proofs.RotationLaws.{bit-right, right-lt, right-some}
 use Rattle.occupancy.specs.declared.Occupancy.{Occupancy}
-use Rattle.occupancy.specs.Occupied.{wordOf, firstRoom}
+use Rattle.occupancy.specs.Occupied.{firstRoom}
 use Rattle.occupancy.specs.Right.{Right, firstClear}
 
 -- A first number before the end of the scan passes the test.

@@ -18,7 +18,7 @@ use Rattle.laws.proofs.MaskLaws.{Apart}
 use Rattle.bits.specs.Deposit.{lowDigit, lowest}
 use Rattle.bits.specs.Rotated.{rotatedRight, rotatedLeft}
 use Rattle.bits.proofs.RotationLaws.{bit-right, bit-left, left-lt, right-lt, left-ones, right-ones}
-use Rattle.bits.proofs.DepositLaws.{low-none, low-cat, low-lt, low-bit, low-ones}
+use Rattle.bits.proofs.DepositLaws.{low-cat, low-lt, low-bit, low-ones}
 use Rattle.occupancy.specs.Occupied.{freeBit, firstFree, windowOf}
 
 -- None wanted.

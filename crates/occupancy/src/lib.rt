@@ -48,23 +48,20 @@ fn window(word: u64, max: u64, rotation: u64) -> u64
 }
 
 impl Occupancy {
-    // A span of so many slots, none taken: the bits past the last slot are set.
+    // A span of so many slots, none taken: the words past the last slot are full, and the partial word keeps its low slots free.
     pub fn fresh(slots: u64) -> Self
         requires { ⌜ slots ≤ 4096 ⌝ }
         ensures { λ r. ⌜ r ≡ freshOf slots ⌝ }
     {
+        let full_words = (slots / 64) as usize;
         let mut words = [0u64; 64];
-        let mut i: usize = 0;
-        let mut left = slots;
+        let mut i = full_words;
         while i < 64 {
-            if left < 64 {
-                words[i] = bits::ones_from(left);
-                left = 0;
-            } else {
-                words[i] = 0;
-                left -= 64;
-            }
+            words[i] = u64::MAX;
             i += 1;
+        }
+        if full_words < 64 {
+            words[full_words] = u64::MAX << (slots % 64);
         }
         Occupancy {
             summary: bits::ones_from((slots + 63) / 64),

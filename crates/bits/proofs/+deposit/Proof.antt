@@ -1,3 +1,4 @@
+-- `deposit` meets its contract: the measure is how many bits are still wanted. Assumes nothing.
 use mathlib.Core.Path.{sym, ap, _∙_}
 use Prim.Native.Nat.{ℕ, _<_}
 use native.Mathlib.Omega.{arith}
@@ -20,14 +21,12 @@ deposit-at t = and 0 deposit-kinds.ps (is 0 deposit-kinds.ps μ-deposit t) depos
 abbrev deposit-below : ℕ → In 0 deposit-kinds.ps
 deposit-below t = and 0 deposit-kinds.ps (falls 0 deposit-kinds.ps _<_ μ-deposit t) deposit.Pre
 
--- src/lib.rt:65:9
 deposit-returns :
     (t : ℕ) → deposit-lts.Need-returns (deposit-below t, deposit.Post) (deposit-at t) deposit.Post
 deposit-returns t c =
     let a = c .before .args in
     sym (ap (λ (z : ℕ). lowest 64 z (a .word)) (c .if1 .taken) ∙ low-none 64 (a .word))
 
--- src/lib.rt:68:9
 deposit-returns-2 :
     (t : ℕ) →
     deposit-lts.Need-returns-2 (deposit-below t, deposit.Post) (deposit-at t) deposit.Post
@@ -35,26 +34,22 @@ deposit-returns-2 t c =
     let a = c .before .before .args in
     sym (ap (lowest 64 (a .n)) (c .if2 .taken) ∙ low-zero 64 (a .n))
 
--- src/lib.rt:70:24
 deposit-sub-rest :
     (t : ℕ) →
     deposit-lts.Need-sub-rest (deposit-below t, deposit.Post) (deposit-at t) deposit.Post
 deposit-sub-rest t c = omega arith
 
--- src/lib.rt:71:29
 deposit-sub-deposit :
     (t : ℕ) →
     deposit-lts.Need-sub-deposit (deposit-below t, deposit.Post) (deposit-at t) deposit.Post
 deposit-sub-deposit t c = omega arith
 
--- src/lib.rt:71:21
 deposit-deposit-requires : (t : ℕ) → deposit-lts.Need-deposit-requires (
   deposit-below t,
   deposit.Post,
 ) (deposit-at t) deposit.Post
 deposit-deposit-requires t c κs = (omega arith, tt)
 
--- src/lib.rt:61:1
 deposit-returns-3 :
     (t : ℕ) →
     deposit-lts.Need-returns-3 (deposit-below t, deposit.Post) (deposit-at t) deposit.Post

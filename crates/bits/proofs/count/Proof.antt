@@ -1,10 +1,9 @@
+-- `count` meets its contract: 64 digits of a word are all of them. Assumes nothing.
 use native.Mathlib.Omega.{arith}
 use lib.Count.{ones-le}
 use Rattle.laws.proofs.WordLaws.{ones-in}
 use Rattle.bits.proofs.count.Statement.{statement}
 use Rattle.bits.proofs.count.Tie as tie
-use Rattle.bits.proofs.count.Reads as reads
-use Rattle.bits.proofs.count.Lts as lts
 
 cast-result : tie.Need-cast-result
 cast-result c = omega (arith, ones-le 64 (c .args .x) (c .fits .x .fits))

@@ -1,3 +1,4 @@
+-- `ones_from` meets its contract: what a shift to the left keeps. Assumes nothing.
 use borrow.Author.Needs.{needs}
 use mathlib.Core.Path.{sym, ap}
 use Prim.Native.Nat.{ℕ, _-_, _^_}
@@ -5,18 +6,13 @@ use native.Mathlib.Omega.{arith}
 use Rattle.bits.proofs.RotationLaws.{ones-shl}
 use Rattle.bits.proofs.ones_from.Statement.{statement}
 use Rattle.bits.proofs.ones_from.Tie as tie
-use Rattle.bits.proofs.ones_from.Reads as reads
-use Rattle.bits.proofs.ones_from.Lts as lts
 
--- src/lib.rt:43:29
 shl-result : tie.Need-shl-result
 shl-result c = search needs
 
--- src/lib.rt:39:1
 returns : tie.Need-returns
 returns c = sym (ap (λ (k : ℕ). 2 ^ 64 - 2 ^ k) (c .if1 .taken))
 
--- src/lib.rt:39:1
 returns-2 : tie.Need-returns-2
 returns-2 c = ones-shl (c .before .args .k) (omega (arith, c .if1 .left))
 

@@ -1,29 +1,23 @@
+-- `rotate_left` meets its contract: the two shifts share no bit. Assumes nothing.
 use borrow.Author.Needs.{needs}
 use mathlib.Core.Path.{sym, ap, _∙_}
 use Rattle.bits.specs.Rotated.{rotatedLeft}
 use Rattle.bits.proofs.RotationLaws.{left-is, left-none}
 use Rattle.bits.proofs.rotate_left.Statement.{statement}
 use Rattle.bits.proofs.rotate_left.Tie as tie
-use Rattle.bits.proofs.rotate_left.Reads as reads
-use Rattle.bits.proofs.rotate_left.Lts as lts
 
--- src/lib.rt:63:9
 returns : tie.Need-returns
 returns c = sym (ap (rotatedLeft (c .before .args .x)) (c .if1 .taken) ∙ left-none (c .before .args .x) (c .before .fits .x .fits))
 
--- src/lib.rt:65:6
 shl-result : tie.Need-shl-result
 shl-result c = search needs
 
--- src/lib.rt:65:23
 sub-result : tie.Need-sub-result
 sub-result c = search needs
 
--- src/lib.rt:65:17
 shr-result : tie.Need-shr-result
 shr-result c = search needs
 
--- src/lib.rt:58:1
 returns-2 : tie.Need-returns-2
 returns-2 c = left-is (c .before .args .x) (c .before .args .k) (c .before .fits .x .fits) (c .before .pre)
 

@@ -2,7 +2,7 @@
 use mathlib.Core.Bool.{Bool, cond}
 use mathlib.Core.Logic.{⊎-elim}
 use mathlib.Core.Path.{sym, ap, _∙_}
-use Prim.Native.Nat.{ℕ, _+_, _-_, _^_}
+use Prim.Native.Nat.{ℕ, _+_}
 use native.Mathlib.Omega.{arith}
 use lib.Bits.{bitOr}
 use borrow.Author.Tests.{eq-eqb, ne-eqb, eqb-true, eqb-false}
@@ -14,14 +14,7 @@ use Rattle.occupancy.proofs.ClaimLaws.{claim-none, claim-full, claim-ma
 use borrow.Author.Needs.{needs}
 use Rattle.occupancy.proofs.Occupancy.claim_up_to.Statement.{statement}
 use Rattle.occupancy.proofs.Occupancy.claim_up_to.Tie as tie
-use Rattle.occupancy.proofs.Occupancy.claim_up_to.Reads as reads
-use Rattle.occupancy.proofs.Occupancy.claim_up_to.Lts as lts
-use Rattle.bits.proofs.count.Reads as count-reads
-use Rattle.bits.proofs.set_bit.Reads as set-bit-reads
-use Rattle.occupancy.proofs.free_word.Reads as free-word-reads
-use Rattle.occupancy.proofs.window.Reads as window-reads
 
--- src/lib.rt:83:13
 returns : tie.Need-returns
 returns c =
     let s = c .before in
@@ -29,46 +22,36 @@ returns c =
     ⊎-elim (λ w. sym (claim-none (a .self) (a .max) (a .random) (w .taken)))
     (λ w. sym (claim-full (s .pre .0) (a .self) (s .pre .1) (a .max) (a .random) (eqb-true (a .self .summary) allOnes (w .1 .taken)))) (c .if1 .came)
 
--- src/lib.rt:88:13
 free-word-requires : tie.Need-free-word-requires
 free-word-requires c κs = omega (arith, c .before .before .pre .1 .top, eqb-false (c .before .before .args .self .summary) allOnes (c .if2 .left))
 
--- src/lib.rt:90:20
 mul-word : tie.Need-mul-word
 mul-word c = search needs
 
--- src/lib.rt:90:20
 array-read-word : tie.Need-array-read-word
 array-read-word c = search needs
 
--- src/lib.rt:91:13
 window-requires : tie.Need-window-requires
 window-requires c κs = search needs
 
--- src/lib.rt:93:9
 mul-words : tie.Need-mul-words
 mul-words c = search needs
 
--- src/lib.rt:93:9
 array-write-words : tie.Need-array-write-words
 array-write-words c = search needs
 
--- src/lib.rt:94:34
 count-requires : tie.Need-count-requires
 count-requires c κs = search needs
 
--- src/lib.rt:94:21
 add-count : tie.Need-add-count
 add-count c =
     let s = c .before .before .before .before .before .before .before in
     let r = s .pre .1 in
     omega (arith, count-most (s .pre .0) (s .args .self) r, r .within, c .before .count .ensures, ones-most 64 (c .before .before .window .result))
 
--- src/lib.rt:96:13
 set-bit-requires : tie.Need-set-bit-requires
 set-bit-requires c κs = search needs
 
--- src/lib.rt:77:5
 returns-2 : tie.Need-returns-2
 returns-2 c =
     let s = c .before .before .before .before .before .before .before .before .before in
@@ -82,7 +65,6 @@ returns-2 c =
     (c .set-bit .ensures ∙ sym (ap (λ (b : Bool). cond b (setBit (o .summary) (word .result)) (o .summary)) (eq-eqb (bitOr (wordOf o (word .result)) (mask .result)) allOnes (c .before .if3 .taken))))
     (ap (λ (z : ℕ). o .count + z) (count .ensures))
 
--- src/lib.rt:77:5
 returns-3 : tie.Need-returns-3
 returns-3 c =
     let s = c .before .before .before .before .before .before .before .before in

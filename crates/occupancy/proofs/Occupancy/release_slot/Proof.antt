@@ -5,39 +5,28 @@ use Rattle.occupancy.specs.Occupied.{releaseSlot}
 use borrow.Author.Needs.{needs}
 use Rattle.occupancy.proofs.Occupancy.release_slot.Statement.{statement}
 use Rattle.occupancy.proofs.Occupancy.release_slot.Tie as tie
-use Rattle.occupancy.proofs.Occupancy.release_slot.Reads as reads
-use Rattle.occupancy.proofs.Occupancy.release_slot.Lts as lts
-use Rattle.bits.proofs.clear_bit.Reads as clear-bit-reads
 
--- src/lib.rt:118:36
 mul-clear-bit : tie.Need-mul-clear-bit
 mul-clear-bit c = search needs
 
--- src/lib.rt:118:36
 array-read-clear-bit : tie.Need-array-read-clear-bit
 array-read-clear-bit c = search needs
 
--- src/lib.rt:118:20
 clear-bit-requires : tie.Need-clear-bit-requires
 clear-bit-requires c κs = search needs
 
--- src/lib.rt:118:9
 mul-words : tie.Need-mul-words
 mul-words c = search needs
 
--- src/lib.rt:118:9
 array-write-words : tie.Need-array-write-words
 array-write-words c = search needs
 
--- src/lib.rt:120:22
 clear-bit-requires-2 : tie.Need-clear-bit-requires-2
 clear-bit-requires-2 c κs = search needs
 
--- src/lib.rt:122:20
 sub-t10 : tie.Need-sub-t10
 sub-t10 c = search needs
 
--- src/lib.rt:111:5
 returns : tie.Need-returns
 unfolding releaseSlot
 returns c =
