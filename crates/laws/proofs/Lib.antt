@@ -4,6 +4,7 @@ pub mod CondLaws
 pub mod Division
 pub mod FirstLaws
 pub mod MaskLaws
+pub mod PasteLaws
 pub mod Powers
 pub mod Rising
 pub mod SumLaws

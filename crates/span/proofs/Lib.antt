@@ -1,1 +1,3 @@
+pub mod CellsThere
+pub mod SpanSteps
 pub mod Worked

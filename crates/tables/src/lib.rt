@@ -25,14 +25,14 @@ const HEAD_CELLS: u64 = 5;
 const MOST_SLOTS: u64 = 4096;
 
 // Where the cells stand: word i of span s, field f of its record, head f of a row.
-fn bitmap_cell(s: u64, i: u64) -> u64
+pub fn bitmap_cell(s: u64, i: u64) -> u64
     requires { ⌜ bitmapCell s i < 2 ^ 64 ⌝ }
     ensures { λ r. ⌜ r ≡ bitmapCell s i ⌝ }
 {
     s * BITMAP_CELLS + i
 }
 
-fn span_cell(s: u64, f: u64) -> u64
+pub fn span_cell(s: u64, f: u64) -> u64
     requires { ⌜ spanCell s f < 2 ^ 64 ⌝ }
     ensures { λ r. ⌜ r ≡ spanCell s f ⌝ }
 {
