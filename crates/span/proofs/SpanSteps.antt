@@ -1,15 +1,16 @@
 -- The steps of a span, put together from the stores that the code makes. Assumes nothing.
 use mathlib.Core.Path.{_≡_, refl, sym, ap, ap₂, _∙_}
 use mathlib.Core.List.{List, _∷_}
-use Prim.Native.Nat.{ℕ, suc, _+_, _<_}
+use Prim.Native.Nat.{ℕ, suc, _+_, _/_, _%_, _<_}
 use native.Mathlib.Numerals.{add-one}
-use lib.ListN.{length, set}
+use lib.ListN.{length, getD, set, replicate}
 use lib.Seq.{paste}
+use Rattle.laws.specs.Word.{setBit}
 use Rattle.laws.proofs.PasteLaws.{paste-cons}
 use Rattle.occupancy.specs.declared.Occupancy.{Occupancy}
-use Rattle.tables.specs.Cells.{Tables, tables, bitmapCell, spanCell, localSummary, localWord, occupiedField}
+use Rattle.tables.specs.Cells.{Tables, tables, bitmapCell, spanCell, localSummary, localWord, remoteSummary, remoteWord, occupiedField}
 use Rattle.tables.proofs.CellLaws.{bitmap-next}
-use Rattle.span.specs.Span.{stored}
+use Rattle.span.specs.Span.{stored, clearPending, remoteFree}
 
 -- A store of an occupancy is a store of its summary, a copy of its words, and a store of its count.
 pub stored-is :
@@ -27,3 +28,36 @@ stored-is b s e h u k o b₁ b₂ s₁ at i p q r w =
     paste-cons b (bitmapCell k localSummary) (o .summary) (o .words) 64 i
     ∙ sym (r ∙ ap (λ (z : ℕ). paste b₁ z (o .words) 64) n ∙ ap (λ (z : List ℕ). paste z (suc (bitmapCell k localSummary)) (o .words) 64) p) in
     ap₂ (λ (x y : List ℕ). tables x y e h u) (sym c) w
+
+-- Nothing pending: a store of the summary and a copy of 64 zeros.
+pub cleared-is :
+    (b p e h : List ℕ) (u k : ℕ) (b₁ b₂ : List ℕ) (at : ℕ) →
+    bitmapCell k remoteSummary < length b →
+    b₁ ≡ set b (bitmapCell k remoteSummary) 0 →
+    at ≡ bitmapCell k (remoteWord 0) →
+    b₂ ≡ paste b₁ at (replicate 64 0) 64 →
+    tables b₂ p e h u ≡ clearPending (tables b p e h u) k
+cleared-is b p e h u k b₁ b₂ at i q w r =
+    let n : at ≡ suc (bitmapCell k remoteSummary) = w ∙ bitmap-next k 65 1 ∙ add-one (bitmapCell k 65) in
+    let c : paste b (bitmapCell k remoteSummary) (replicate 65 0) 65 ≡ b₂ =
+    paste-cons b (bitmapCell k remoteSummary) 0 (replicate 64 0) 64 i
+    ∙ sym (r ∙ ap (λ (z : ℕ). paste b₁ z (replicate 64 0) 64) n ∙ ap (λ (z : List ℕ). paste z (suc (bitmapCell k remoteSummary)) (replicate 64 0) 64) q) in
+    ap (λ (x : List ℕ). tables x p e h u) (sym c)
+
+-- A remote free: the slot's bit is set in its pending word, and the word's in the remote summary.
+pub remote-is :
+    (b p e h : List ℕ) (u s q : ℕ) (b₁ b₂ : List ℕ) (word summary v x : ℕ) →
+    word ≡ getD b (bitmapCell s (remoteWord (q / 64))) 0 →
+    summary ≡ getD b (bitmapCell s remoteSummary) 0 →
+    v ≡ setBit word (q % 64) →
+    b₁ ≡ set b (bitmapCell s (remoteWord (q / 64))) v →
+    x ≡ setBit summary (q / 64) →
+    b₂ ≡ set b₁ (bitmapCell s remoteSummary) x →
+    tables b₂ p e h u ≡ remoteFree (tables b p e h u) s q
+unfolding remoteFree
+remote-is b p e h u s q b₁ b₂ word summary v x ew es ev eb ex ec =
+    ap (λ (l : List ℕ). tables l p e h u)
+    (ec
+    ∙ ap₂ (λ (l : List ℕ) (z : ℕ). set l (bitmapCell s remoteSummary) z)
+    (eb ∙ ap (λ (z : ℕ). set b (bitmapCell s (remoteWord (q / 64))) z) (ev ∙ ap (λ (z : ℕ). setBit z (q % 64)) ew))
+    (ex ∙ ap (λ (z : ℕ). setBit z (q / 64)) es))

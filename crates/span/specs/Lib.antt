@@ -1,3 +1,3 @@
-pub mod Room
 pub mod Span
+pub mod Room
 pub mod State

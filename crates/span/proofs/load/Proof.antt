@@ -9,16 +9,16 @@ use Rattle.span.proofs.load.Statement.{statement}
 use Rattle.span.proofs.load.Tie as tie
 
 bitmap-cell-requires : tie.Need-bitmap-cell-requires
-bitmap-cell-requires c κs = omega (arith, local-there _ _ _ (c .before .before .pre))
+bitmap-cell-requires c κs = omega (arith, local-there _ _ (c .before .before .pre .words))
 
 words-from-requires : tie.Need-words-from-requires
-words-from-requires c κs = omega (arith, local-there _ _ _ (c .before .before .before .pre), c .bitmap-cell .ensures)
+words-from-requires c κs = omega (arith, local-there _ _ (c .before .before .before .pre .words), c .bitmap-cell .ensures)
 
 word-requires : tie.Need-word-requires
-word-requires c κs = summary-there _ _ _ (c .before .before .before .before .pre) 0 (omega arith)
+word-requires c κs = summary-there _ _ (c .before .before .before .before .pre .words) 0 (omega arith)
 
 field-requires : tie.Need-field-requires
-field-requires c κs = field-there _ _ _ (c .before .before .before .before .before .pre) 2 (omega arith)
+field-requires c κs = field-there _ _ (c .before .before .before .before .before .pre .fields) 2 (omega arith)
 
 returns : tie.Need-returns
 returns c =
