@@ -32,6 +32,7 @@ use Rattle.occupancy.proofs.RightLaws.{slot-taken, count-total, count-m
 -- ---- a claim by its cases
 
 module _ (o : Occupancy) (m w : ℕ) where
+  -- where the scan for a word with room ends
   abbrev found : ℕ
   found = firstRoom (o .words) (w % 64)
 
@@ -84,26 +85,30 @@ module _ (slots : ℕ) (o : Occupancy) (r : Right slots o) (m w : ℕ) where
 -- ---- what a claim takes
 
 module _ (slots : ℕ) (o : Occupancy) (r : Right slots o) (m i j : ℕ) (hi : i < 64) (hj : j < 64) (room : wordOf o i ≡ allOnes → ⊥) where
-  abbrev x : ℕ
-  x = wordOf o i
+  -- the word, what is taken of it, and what it and the summary become
+  abbrev word : ℕ
+  word = wordOf o i
 
   abbrev mask : ℕ
-  mask = windowOf x m j
+  mask = windowOf word m j
 
-  abbrev v : ℕ
-  v = x + mask
+  abbrev next : ℕ
+  next = word + mask
 
-  abbrev s : ℕ
-  s = cond (eqb v allOnes) (setBit (o .summary) i) (o .summary)
+  abbrev summary′ : ℕ
+  summary′ = cond (eqb next allOnes) (setBit (o .summary) i) (o .summary)
 
+  -- the occupancy then
   abbrev after : Occupancy
-  after = put slots o r i v s (o .count + popcount mask) hi
+  after = put slots o r i next summary′ (o .count + popcount mask) hi
 
-  small : x < 2 ^ 64
+  -- The word is one.
+  small : word < 2 ^ 64
   small = r .small i hi
 
-  apart : Apart x mask
-  apart = window-apart x m j small hj
+  -- It shares no bit with what is taken.
+  apart : Apart word mask
+  apart = window-apart word m j small hj
 
   -- The summary bit of the word says whether it is all ones now.
   summary-same : (b : Bool) (y i : ℕ) → isSet y i ≡ false → isSet (cond b (setBit y i) y) i ≡ b
@@ -116,45 +121,45 @@ module _ (slots : ℕ) (o : Occupancy) (r : Right slots o) (m i j : ℕ) (hi : i
   summary-other false y i k n = refl
 
   -- A set bit of the word stays set.
-  stays : (b : ℕ) → isSet x b ≡ true → isSet v b ≡ true
-  stays b e = ap (λ (z : ℕ). eqb z 1) (let k : bitAt v b ≡ 1 = omega (arith, add-bit b x mask apart, apart .bits b, set-one x b e) in k)
+  stays : (b : ℕ) → isSet word b ≡ true → isSet next b ≡ true
+  stays b e = ap (λ (z : ℕ). eqb z 1) (let k : bitAt next b ≡ 1 = omega (arith, add-bit b word mask apart, apart .bits b, set-one word b e) in k)
 
   -- The occupancy stays right.
   taking-right : Right slots after
   taking-right =
-      put-right slots o r i v s (o .count + popcount mask) hi
-      (add-lt 64 x mask small (window-lt x m j small hj) apart)
-      (cond-both (λ z. z < 2 ^ 64) (eqb v allOnes) (setBit (o .summary) i) (o .summary) (λ e. set-lt (o .summary) i (r .top) hi) (λ e. r .top))
-      (summary-same (eqb v allOnes) (o .summary) i (r .full i hi ∙ ne-eqb x allOnes room))
-      (λ k h n. summary-other (eqb v allOnes) (o .summary) i k n)
+      put-right slots o r i next summary′ (o .count + popcount mask) hi
+      (add-lt 64 word mask small (window-lt word m j small hj) apart)
+      (cond-both (λ z. z < 2 ^ 64) (eqb next allOnes) (setBit (o .summary) i) (o .summary) (λ e. set-lt (o .summary) i (r .top) hi) (λ e. r .top))
+      (summary-same (eqb next allOnes) (o .summary) i (r .full i hi ∙ ne-eqb word allOnes room))
+      (λ k h n. summary-other (eqb next allOnes) (o .summary) i k n)
       (λ b h l. stays b (sym (slot-taken o i b h) ∙ r .past (i * 64 + b) (omega arith) l))
-      (omega (arith, add-ones 64 x mask apart))
+      (omega (arith, add-ones 64 word mask apart))
 
   -- A bit of the mask is clear in the word.
-  free-bit : (b : ℕ) → isSet mask b ≡ true → bitAt x b ≡ 0
+  free-bit : (b : ℕ) → isSet mask b ≡ true → bitAt word b ≡ 0
   free-bit b e = omega (arith, apart .bits b, set-one mask b e)
 
   -- Some bit of the word is clear.
-  some-free : 0 < popcount (allOnes - x)
-  some-free = ones-some 64 (allOnes - x) (ones-sub-lt 64 x) (λ e. room (full x small e))
+  some-free : 0 < popcount (allOnes - word)
+  some-free = ones-some 64 (allOnes - word) (ones-sub-lt 64 word) (λ e. room (full word small e))
     where
-      full : (x : ℕ) → x < 2 ^ 64 → 2 ^ 64 - 1 - x ≡ 0 → x ≡ 2 ^ 64 - 1
-      full x h e = omega arith
+      full : (word : ℕ) → word < 2 ^ 64 → 2 ^ 64 - 1 - word ≡ 0 → word ≡ 2 ^ 64 - 1
+      full word h e = omega arith
 
   -- What is taken of a word with room.
   taking-took : 0 < m → Took slots m o i mask after
   taking-took hm =
       record {
         place = hi;
-        word = window-lt x m j small hj;
-        number = window-ones x m j small hj;
-        some = omega (arith, window-ones x m j small hj, some-free);
+        word = window-lt word m j small hj;
+        number = window-ones word m j small hj;
+        some = omega (arith, window-ones word m j small hj, some-free);
         inRange = λ b h e. inside b h e (decLt (i * 64 + b) slots);
         free = λ b h e. slot-taken o i b h ∙ ap (λ (z : ℕ). eqb z 1) (free-bit b e);
         taken =
             λ b h e.
-            slot-taken after i b h ∙ ap (λ (z : ℕ). isSet z b) (put-same slots o r i v s (o .count + popcount mask) hi)
-            ∙ ap (λ (z : ℕ). eqb z 1) (let k : bitAt v b ≡ 1 = omega (arith, add-bit b x mask apart, free-bit b e, set-one mask b e) in k);
+            slot-taken after i b h ∙ ap (λ (z : ℕ). isSet z b) (put-same slots o r i next summary′ (o .count + popcount mask) hi)
+            ∙ ap (λ (z : ℕ). eqb z 1) (let k : bitAt next b ≡ 1 = omega (arith, add-bit b word mask apart, free-bit b e, set-one mask b e) in k);
         others = λ q e. other q e (ℕ-discrete (q / 64) i);
         count = refl;
       }
@@ -162,16 +167,16 @@ module _ (slots : ℕ) (o : Occupancy) (r : Right slots o) (m i j : ℕ) (hi : i
       inside : (b : ℕ) → b < 64 → isSet mask b ≡ true → Dec (i * 64 + b < slots) → i * 64 + b < slots
       inside b h e (yes l) = l
       inside b h e (no l) =
-          let t : isSet x b ≡ true = sym (slot-taken o i b h) ∙ r .past (i * 64 + b) (omega arith) (omega arith) in
-          absurd (let z : ⊥ = omega (arith, free-bit b e, set-one x b t) in z)
+          let t : isSet word b ≡ true = sym (slot-taken o i b h) ∙ r .past (i * 64 + b) (omega arith) (omega arith) in
+          absurd (let z : ⊥ = omega (arith, free-bit b e, set-one word b t) in z)
 
       other : (q : ℕ) → (q / 64 ≡ i → isSet mask (q % 64) ≡ false) → Dec (q / 64 ≡ i) → isTaken after q ≡ isTaken o q
       other q e (yes l) =
           ap (λ (k : ℕ). isSet (wordOf after k) (q % 64)) l
-          ∙ ap (λ (z : ℕ). isSet z (q % 64)) (put-same slots o r i v s (o .count + popcount mask) hi)
-          ∙ ap (λ (z : ℕ). eqb z 1) (let k : bitAt v (q % 64) ≡ bitAt x (q % 64) = omega (arith, add-bit (q % 64) x mask apart, set-none mask (q % 64) (e l)) in k)
+          ∙ ap (λ (z : ℕ). isSet z (q % 64)) (put-same slots o r i next summary′ (o .count + popcount mask) hi)
+          ∙ ap (λ (z : ℕ). eqb z 1) (let k : bitAt next (q % 64) ≡ bitAt word (q % 64) = omega (arith, add-bit (q % 64) word mask apart, set-none mask (q % 64) (e l)) in k)
           ∙ ap (λ (k : ℕ). isSet (wordOf o k) (q % 64)) (sym l)
-      other q e (no l) = ap (λ (z : ℕ). isSet z (q % 64)) (put-other slots o r i v s (o .count + popcount mask) hi (q / 64) l)
+      other q e (no l) = ap (λ (z : ℕ). isSet z (q % 64)) (put-other slots o r i next summary′ (o .count + popcount mask) hi (q / 64) l)
 
 -- ---- a claim of a right occupancy
 
@@ -186,31 +191,32 @@ unfolding sum
 sum-full = refl
 
 module _ (slots : ℕ) (o : Occupancy) (r : Right slots o) (m w : ℕ) where
-  abbrev at : ℕ
-  at = firstRoom (o .words) (w % 64)
+  -- where the scan ends, the word there, and what is taken of it
+  abbrev scan : ℕ
+  scan = firstRoom (o .words) (w % 64)
 
-  abbrev I : ℕ
-  I = at % 64
+  abbrev index : ℕ
+  index = scan % 64
 
-  abbrev J : ℕ
-  J = w / 64 % 64
+  abbrev rotation : ℕ
+  rotation = w / 64 % 64
 
-  abbrev M : ℕ
-  M = windowOf (wordOf o I) m J
+  abbrev taken : ℕ
+  taken = windowOf (wordOf o index) m rotation
 
   -- What holds of no claim, and of what is taken of the word with room, holds of a claim.
-  by-claim : (P : Claim → Type 0) → ((m ≡ 0) ⊎ (w % 64 + 64 ≤ at) → P (nothing o))
-      → ((h : at < w % 64 + 64) → 0 < m → Right slots (taking o I M .occupancy) → Took slots m o I M (taking o I M .occupancy) → P (taking o I M)) → P (claim o m w)
+  by-claim : (P : Claim → Type 0) → ((m ≡ 0) ⊎ (w % 64 + 64 ≤ scan) → P (nothing o))
+      → ((h : scan < w % 64 + 64) → 0 < m → Right slots (taking o index taken .occupancy) → Took slots m o index taken (taking o index taken .occupancy) → P (taking o index taken)) → P (claim o m w)
   unfolding claimIn taking
-  by-claim P none some = go (ℕ-discrete m 0) (decLt at (w % 64 + 64))
+  by-claim P none some = go (ℕ-discrete m 0) (decLt scan (w % 64 + 64))
     where
-      go : Dec (m ≡ 0) → Dec (at < w % 64 + 64) → P (claim o m w)
+      go : Dec (m ≡ 0) → Dec (scan < w % 64 + 64) → P (claim o m w)
       go (yes e) d = subst P (sym (claim-none o m w e)) (none (inl e))
       go (no n) (yes h) =
           subst P (sym (claim-found o m w n h))
           (some h (omega arith)
-          (taking-right slots o r m I J (mod-lt at (lit< tt)) (mod-lt (w / 64) (lit< tt)) (room-found (o .words) (w % 64) h))
-          (taking-took slots o r m I J (mod-lt at (lit< tt)) (mod-lt (w / 64) (lit< tt)) (room-found (o .words) (w % 64) h) (omega arith)))
+          (taking-right slots o r m index rotation (mod-lt scan (lit< tt)) (mod-lt (w / 64) (lit< tt)) (room-found (o .words) (w % 64) h))
+          (taking-took slots o r m index rotation (mod-lt scan (lit< tt)) (mod-lt (w / 64) (lit< tt)) (room-found (o .words) (w % 64) h) (omega arith)))
       go (no n) (no h) = subst P (sym (claim-past o m w (omega arith))) (none (inr (omega arith)))
 
   -- A claim keeps the occupancy right.
@@ -224,9 +230,9 @@ module _ (slots : ℕ) (o : Occupancy) (r : Right slots o) (m w : ℕ) where
       by-claim (λ c. (i mask : ℕ) → c .answer ≡ Taken i mask → Took slots m o i mask (c .occupancy))
       (λ e i mask q. absurd (let z : _≡_ {A = ℕ} 0 1 = cc in let y : ⊥ = omega arith in y))
       (λ h p a b i mask q.
-      let e : I ≡ i = cc in
-      let f : M ≡ mask = cc in
-      subst (λ (z : ℕ). Took slots m o z mask (taking o I M .occupancy)) e (subst (λ (z : ℕ). Took slots m o I z (taking o I M .occupancy)) f b))
+      let e : index ≡ i = cc in
+      let f : taken ≡ mask = cc in
+      subst (λ (z : ℕ). Took slots m o z mask (taking o index taken .occupancy)) e (subst (λ (z : ℕ). Took slots m o index z (taking o index taken .occupancy)) f b))
 
   -- Where all words are all ones, all slots are taken.
   words-full : ((i : ℕ) → i < 64 → wordOf o i ≡ allOnes) → o .count ≡ slots
@@ -252,4 +258,4 @@ module _ (slots : ℕ) (o : Occupancy) (r : Right slots o) (m w : ℕ) where
       by-claim (λ c. c ≡ nothing o) (λ e. refl)
       (λ h p a b.
       ⊎-elim (λ e. absurd (let z : ⊥ = omega arith in z))
-      (λ e. absurd (let z : ⊥ = omega (arith, b .some, b .count, count-most slots (taking o I M .occupancy) a) in z)) why)
+      (λ e. absurd (let z : ⊥ = omega (arith, b .some, b .count, count-most slots (taking o index taken .occupancy) a) in z)) why)

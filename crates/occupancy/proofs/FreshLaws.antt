@@ -86,14 +86,16 @@ filled-turn full i words l h f =
           (λ k n u v. f .ones k u (let z : k < i = omega (arith, n) in z));
     }
 
--- A word of a fresh span by its place.
+-- A word before the last slot's is 0.
 fresh-free-word : (n k : ℕ) → k < 64 → k < n / 64 → 0 ≡ getD (freshWords 64 n) k 0
 fresh-free-word n k h l = sym (fresh-at 64 n k h ∙ ap (λ (z : ℕ). 2 ^ 64 - 2 ^ z) (let e : min (n - 64 * k) 64 ≡ 64 = omega arith in e))
 
+-- The word of the last slot has its low bits clear.
 fresh-partial-word : (n : ℕ) → n / 64 < 64 → 2 ^ 64 - 2 ^ (n % 64) ≡ getD (freshWords 64 n) (n / 64) 0
 fresh-partial-word n h =
     sym (fresh-at 64 n (n / 64) h ∙ ap (λ (z : ℕ). 2 ^ 64 - 2 ^ z) (let e : min (n - 64 * (n / 64)) 64 ≡ n % 64 = omega arith in e))
 
+-- A word past the last slot's is all ones.
 fresh-full-word : (n k : ℕ) → k < 64 → n / 64 < k → allOnes ≡ getD (freshWords 64 n) k 0
 fresh-full-word n k h l = sym (fresh-at 64 n k h ∙ ap (λ (z : ℕ). 2 ^ 64 - 2 ^ z) (let e : min (n - 64 * k) 64 ≡ 0 = omega arith in e))
 

@@ -38,29 +38,31 @@ bit-less (suc (suc a)) m h l = absurd (let z : ⊥ = omega arith in z)
 -- ---- the slots of a mask in one word
 
 module _ (slots : ℕ) (o : Occupancy) (r : Right slots o) (i mask : ℕ) (held : Held slots o i mask) where
-  abbrev w : ℕ
-  w = wordOf o i
+  -- the word, and the occupancy without the slots of the mask
+  abbrev word : ℕ
+  word = wordOf o i
 
-  abbrev left : Occupancy
-  left = put slots o r i (w - mask) (clearBit (o .summary) i) (o .count - popcount mask) (held .place)
+  abbrev rest : Occupancy
+  rest = put slots o r i (word - mask) (clearBit (o .summary) i) (o .count - popcount mask) (held .place)
 
   -- The slots released are taken.
-  pub held-within : Within mask w
+  pub held-within : Within mask word
   held-within = record { bits = λ b. ⊎-elim (λ h. inside b h (tested (isSet mask b))) (λ h. omega (arith, bit-past 64 mask b (held .word) h)) (lt-or-le b 64) }
     where
-      inside : (b : ℕ) → b < 64 → (isSet mask b ≡ true) ⊎ (isSet mask b ≡ false) → bitAt mask b ≤ bitAt w b
-      inside b h (inl e) = omega (arith, bit-lt mask b, set-one w b (held .held b h e .1))
+      inside : (b : ℕ) → b < 64 → (isSet mask b ≡ true) ⊎ (isSet mask b ≡ false) → bitAt mask b ≤ bitAt word b
+      inside b h (inl e) = omega (arith, bit-lt mask b, set-one word b (held .held b h e .1))
       inside b h (inr e) = omega (arith, set-none mask b e)
 
-  held-le : mask ≤ w
-  held-le = within-le 64 mask w (held .word) held-within
+  -- The mask is not above the word.
+  held-le : mask ≤ word
+  held-le = within-le 64 mask word (held .word) held-within
 
   -- The bits past the last slot stay set.
-  left-past : (b : ℕ) → b < 64 → slots ≤ i * 64 + b → isSet (w - mask) b ≡ true
-  left-past b h l = ap (λ (z : ℕ). eqb z 1) (sub-bit b mask w held-within held-le ∙ one (bitAt w b) (bitAt mask b) set none)
+  rest-past : (b : ℕ) → b < 64 → slots ≤ i * 64 + b → isSet (word - mask) b ≡ true
+  rest-past b h l = ap (λ (z : ℕ). eqb z 1) (sub-bit b mask word held-within held-le ∙ one (bitAt word b) (bitAt mask b) set none)
     where
-      set : bitAt w b ≡ 1
-      set = set-one w b (sym (slot-taken o i b h) ∙ r .past (i * 64 + b) (omega (arith, held .place)) l)
+      set : bitAt word b ≡ 1
+      set = set-one word b (sym (slot-taken o i b h) ∙ r .past (i * 64 + b) (omega (arith, held .place)) l)
 
       none : bitAt mask b ≡ 0
       none = ⊎-elim (λ e. absurd (let z : ⊥ = omega (arith, held .held b h e .0) in z)) (λ e. set-none mask b e) (tested (isSet mask b))
@@ -73,35 +75,35 @@ module _ (slots : ℕ) (o : Occupancy) (r : Right slots o) (i mask : ℕ) (held 
   held-most =
       omega (
         arith,
-        total-past slots left (r .within)
-            (put-past slots o r i (w - mask) (clearBit (o .summary) i) (o .count - popcount mask) (held .place) left-past),
-        put-total slots o r i (w - mask) (clearBit (o .summary) i) (o .count - popcount mask) (held .place),
+        total-past slots rest (r .within)
+            (put-past slots o r i (word - mask) (clearBit (o .summary) i) (o .count - popcount mask) (held .place) rest-past),
+        put-total slots o r i (word - mask) (clearBit (o .summary) i) (o .count - popcount mask) (held .place),
         count-total slots o r,
-        sub-ones 64 mask w held-within held-le,
+        sub-ones 64 mask word held-within held-le,
       )
 
-  -- What is left is right, where any is released.
-  left-right : (mask ≡ 0 → ⊥) → Right slots left
-  left-right some =
-      put-right slots o r i (w - mask) (clearBit (o .summary) i) (o .count - popcount mask) (held .place)
-      (lt-of-le-of-lt (sub-le w mask) (r .small i (held .place))) (clear-lt (o .summary) i (r .top))
+  -- What is rest is right, where any is released.
+  rest-right : (mask ≡ 0 → ⊥) → Right slots rest
+  rest-right some =
+      put-right slots o r i (word - mask) (clearBit (o .summary) i) (o .count - popcount mask) (held .place)
+      (lt-of-le-of-lt (sub-le word mask) (r .small i (held .place))) (clear-lt (o .summary) i (r .top))
       (ap (λ (z : ℕ). eqb z 1) (bit-clear-same (o .summary) i (r .top) (held .place))
-      ∙ sym (ne-eqb (w - mask) allOnes (λ e. some (none w mask (r .small i (held .place)) held-le e))))
+      ∙ sym (ne-eqb (word - mask) allOnes (λ e. some (none word mask (r .small i (held .place)) held-le e))))
       (λ j h n. ap (λ (z : ℕ). eqb z 1) (bit-clear-other (o .summary) i j (r .top) (held .place) h n))
-      left-past
-      (omega (arith, sub-ones 64 mask w held-within held-le, held-most))
+      rest-past
+      (omega (arith, sub-ones 64 mask word held-within held-le, held-most))
     where
-      none : (w m : ℕ) → w < 2 ^ 64 → m ≤ w → w - m ≡ 2 ^ 64 - 1 → m ≡ 0
-      none w m hw l e = omega arith
+      none : (word m : ℕ) → word < 2 ^ 64 → m ≤ word → word - m ≡ 2 ^ 64 - 1 → m ≡ 0
+      none word m hw l e = omega arith
 
   -- A release by word, by cases.
-  by-word : (P : Occupancy → Type 0) → (mask ≡ 0 → P o) → ((mask ≡ 0 → ⊥) → P left) → P (releaseSlotsByWord o i mask)
+  by-word : (P : Occupancy → Type 0) → (mask ≡ 0 → P o) → ((mask ≡ 0 → ⊥) → P rest) → P (releaseSlotsByWord o i mask)
   unfolding releaseSlotsByWord
   by-word P none some = elim (ℕ-discrete mask 0) [ yes e ↦ rw (eq-eqb mask 0 e) (none e) | no n ↦ rw (ne-eqb mask 0 n) (some n) ]
 
   -- A release by word keeps the occupancy right.
   pub word-right : Right slots (releaseSlotsByWord o i mask)
-  word-right = by-word (Right slots) (λ e. r) left-right
+  word-right = by-word (Right slots) (λ e. r) rest-right
 
   -- It frees the slots of the mask, and no other slot of its word changes.
   pub word-same : (q : ℕ) → q / 64 ≡ i → isTaken (releaseSlotsByWord o i mask) q ≡ (isTaken o q && not (isSet mask (q % 64)))
@@ -109,17 +111,17 @@ module _ (slots : ℕ) (o : Occupancy) (r : Right slots o) (i mask : ℕ) (held 
       by-word (λ x. isTaken x q ≡ (isTaken o q && not (isSet mask (q % 64))))
       (λ z. sym (ap (λ (m : ℕ). isTaken o q && not (isSet m (q % 64))) z ∙ ap (λ (b : ℕ). isTaken o q && not (eqb b 1)) (bit-zero (q % 64)) ∙ and-true (isTaken o q)))
       (λ n.
-      ap (λ (j : ℕ). isSet (wordOf left j) (q % 64)) e
-      ∙ ap (λ (v : ℕ). isSet v (q % 64)) (put-same slots o r i (w - mask) (clearBit (o .summary) i) (o .count - popcount mask) (held .place))
-      ∙ ap (λ (b : ℕ). eqb b 1) (sub-bit (q % 64) mask w held-within held-le)
-      ∙ bit-less (bitAt w (q % 64)) (bitAt mask (q % 64)) (bit-lt w (q % 64)) (held-within .bits (q % 64))
+      ap (λ (j : ℕ). isSet (wordOf rest j) (q % 64)) e
+      ∙ ap (λ (v : ℕ). isSet v (q % 64)) (put-same slots o r i (word - mask) (clearBit (o .summary) i) (o .count - popcount mask) (held .place))
+      ∙ ap (λ (b : ℕ). eqb b 1) (sub-bit (q % 64) mask word held-within held-le)
+      ∙ bit-less (bitAt word (q % 64)) (bitAt mask (q % 64)) (bit-lt word (q % 64)) (held-within .bits (q % 64))
       ∙ ap (λ (j : ℕ). isSet (wordOf o j) (q % 64) && not (isSet mask (q % 64))) (sym e))
 
   -- No slot of another word changes.
   pub word-other : (q : ℕ) → (q / 64 ≡ i → ⊥) → isTaken (releaseSlotsByWord o i mask) q ≡ isTaken o q
   word-other q n =
       by-word (λ x. isTaken x q ≡ isTaken o q) (λ z. refl)
-      (λ z. ap (λ (v : ℕ). isSet v (q % 64)) (put-other slots o r i (w - mask) (clearBit (o .summary) i) (o .count - popcount mask) (held .place) (q / 64) n))
+      (λ z. ap (λ (v : ℕ). isSet v (q % 64)) (put-other slots o r i (word - mask) (clearBit (o .summary) i) (o .count - popcount mask) (held .place) (q / 64) n))
 
   -- The count falls by as many.
   pub word-count : releaseSlotsByWord o i mask .count + popcount mask ≡ o .count
@@ -143,67 +145,68 @@ released o i mask n p q e = rw (ne-eqb mask 0 n) (λ t. occupancy (p t) (set (o 
 -- ---- one slot
 
 module _ (slots : ℕ) (o : Occupancy) (r : Right slots o) (q : ℕ) (inside : q < slots) (taken : isTaken o q ≡ true) where
-  abbrev i : ℕ
-  i = q / 64
+  -- the word and the bit of the slot
+  abbrev index : ℕ
+  index = q / 64
 
-  abbrev b : ℕ
-  b = q % 64
+  abbrev bit : ℕ
+  bit = q % 64
 
   -- A taken slot may be released.
-  pub slot-held : Held slots o i (2 ^ b)
+  pub slot-held : Held slots o index (2 ^ bit)
   slot-held =
       record {
         place = omega (arith, r .within);
         word = pow-lt (mod-lt q (lit< tt));
-        held = λ j h e. at j e (ℕ-discrete j b);
+        held = λ j h e. at j e (ℕ-discrete j bit);
       }
     where
-      at : (j : ℕ) → isSet (2 ^ b) j ≡ true → Dec (j ≡ b) → (i * 64 + j < slots) × (isSet (wordOf o i) j ≡ true)
-      at j e (yes s) = (omega arith, ap (isSet (wordOf o i)) s ∙ taken)
-      at j e (no n) = absurd (let z : ⊥ = omega (arith, set-one (2 ^ b) j e, bit-pow-other b j n) in z)
+      at : (j : ℕ) → isSet (2 ^ bit) j ≡ true → Dec (j ≡ bit) → (index * 64 + j < slots) × (isSet (wordOf o index) j ≡ true)
+      at j e (yes s) = (omega arith, ap (isSet (wordOf o index)) s ∙ taken)
+      at j e (no n) = absurd (let z : ⊥ = omega (arith, set-one (2 ^ bit) j e, bit-pow-other bit j n) in z)
 
   -- One slot is one bit.
-  slot-ones : popcount (2 ^ b) ≡ 1
-  slot-ones = ones-pow 64 b (mod-lt q (lit< tt))
+  slot-ones : popcount (2 ^ bit) ≡ 1
+  slot-ones = ones-pow 64 bit (mod-lt q (lit< tt))
 
   -- There is one to count.
   pub slot-counted : 0 < o .count
-  slot-counted = omega (arith, held-most slots o r i (2 ^ b) slot-held, slot-ones)
+  slot-counted = omega (arith, held-most slots o r index (2 ^ bit) slot-held, slot-ones)
 
   -- A release of a slot is one of a mask.
-  slot-is-word : releaseSlotsByWord o i (2 ^ b) ≡ releaseSlot o q
+  slot-is-word : releaseSlotsByWord o index (2 ^ bit) ≡ releaseSlot o q
   unfolding releaseSlot releaseSlotsByWord
   slot-is-word =
-      let p : ℕ = 2 ^ b in
-      let e : p ≡ bitAt (wordOf o i) b * p = sym (ap (λ (z : ℕ). z * p) (set-one (wordOf o i) b taken) ∙ one-mul p) in
-      rw (ne-eqb p 0 (λ z. let y : ⊥ = omega (arith, pow-pos b) in y))
-      (λ t. occupancy (clearBit (o .summary) i) (set (o .words) i (wordOf o i - e t)) (o .count - slot-ones t))
+      let p : ℕ = 2 ^ bit in
+      let e : p ≡ bitAt (wordOf o index) bit * p = sym (ap (λ (z : ℕ). z * p) (set-one (wordOf o index) bit taken) ∙ one-mul p) in
+      rw (ne-eqb p 0 (λ z. let y : ⊥ = omega (arith, pow-pos bit) in y))
+      (λ t. occupancy (clearBit (o .summary) index) (set (o .words) index (wordOf o index - e t)) (o .count - slot-ones t))
 
   -- A release keeps the occupancy right.
   pub release-right : Right slots (releaseSlot o q)
-  release-right = subst (Right slots) slot-is-word (word-right slots o r i (2 ^ b) slot-held)
+  release-right = subst (Right slots) slot-is-word (word-right slots o r index (2 ^ bit) slot-held)
 
   -- The slot is free.
   pub release-free : isTaken (releaseSlot o q) q ≡ false
   release-free =
-      ap (λ (x : Occupancy). isTaken x q) (sym slot-is-word) ∙ word-same slots o r i (2 ^ b) slot-held q refl
-      ∙ ap₂ (λ (x : Bool) (m : ℕ). x && not (eqb m 1)) taken (bit-pow-same b)
+      ap (λ (x : Occupancy). isTaken x q) (sym slot-is-word) ∙ word-same slots o r index (2 ^ bit) slot-held q refl
+      ∙ ap₂ (λ (x : Bool) (m : ℕ). x && not (eqb m 1)) taken (bit-pow-same bit)
 
   -- No other slot changes.
   pub release-others : (p : ℕ) → (p ≡ q → ⊥) → isTaken (releaseSlot o q) p ≡ isTaken o p
-  release-others p n = ap (λ (x : Occupancy). isTaken x p) (sym slot-is-word) ∙ go (ℕ-discrete (p / 64) i)
+  release-others p n = ap (λ (x : Occupancy). isTaken x p) (sym slot-is-word) ∙ go (ℕ-discrete (p / 64) index)
     where
-      go : Dec (p / 64 ≡ i) → isTaken (releaseSlotsByWord o i (2 ^ b)) p ≡ isTaken o p
+      go : Dec (p / 64 ≡ index) → isTaken (releaseSlotsByWord o index (2 ^ bit)) p ≡ isTaken o p
       go (yes e) =
-          word-same slots o r i (2 ^ b) slot-held p e
-          ∙ ap (λ (m : ℕ). isTaken o p && not (eqb m 1)) (bit-pow-other b (p % 64) (λ z. n (let y : p ≡ q = omega arith in y)))
+          word-same slots o r index (2 ^ bit) slot-held p e
+          ∙ ap (λ (m : ℕ). isTaken o p && not (eqb m 1)) (bit-pow-other bit (p % 64) (λ z. n (let y : p ≡ q = omega arith in y)))
           ∙ and-true (isTaken o p)
-      go (no m) = word-other slots o r i (2 ^ b) slot-held p m
+      go (no m) = word-other slots o r index (2 ^ bit) slot-held p m
 
   -- The count falls by one.
   pub release-count : releaseSlot o q .count + 1 ≡ o .count
   release-count =
-      omega (arith, word-count slots o r i (2 ^ b) slot-held, slot-ones, ap (λ (x : Occupancy). x .count) slot-is-word)
+      omega (arith, word-count slots o r index (2 ^ bit) slot-held, slot-ones, ap (λ (x : Occupancy). x .count) slot-is-word)
 
 -- ---- the fold of pending words
 
@@ -317,6 +320,7 @@ module _ (slots : ℕ) (pending : List ℕ) where
           }
 
   module _ (o : Occupancy) (r : Right slots o) (p : Pending slots o 0 pending) where
+    -- The fold of all 64 words.
     whole : Folded slots o 0 pending (foldIn o pending) (sum 64 (λ j. popcount (getD pending (0 + j) 0)))
     unfolding foldIn
     whole = fold-from 64 0 o refl r p

@@ -20,10 +20,11 @@ use Rattle.occupancy.specs.Occupied.{occupancy, wordOf, freshWords, fres
 use Rattle.occupancy.specs.Right.{isTaken, takenBelow, Right}
 use Rattle.occupancy.proofs.FreshLaws.{fresh-length, fresh-at, fresh-small, from-low, from-high, from-some}
 
--- The word and the bit of slot i * 64 + b.
+-- The word of slot i * 64 + b.
 pub slot-word : (i b : ℕ) → b < 64 → (i * 64 + b) / 64 ≡ i
 slot-word i b h = omega arith
 
+-- The bit of slot i * 64 + b.
 pub slot-bit : (i b : ℕ) → b < 64 → (i * 64 + b) % 64 ≡ b
 slot-bit i b h = omega arith
 
@@ -31,8 +32,7 @@ slot-bit i b h = omega arith
 pub slot-taken : (o : Occupancy) (i b : ℕ) → b < 64 → isTaken o (i * 64 + b) ≡ isSet (wordOf o i) b
 slot-taken o i b h = ap₂ (λ (j c : ℕ). isSet (wordOf o j) c) (slot-word i b h) (slot-bit i b h)
 
--- ---- the set bits of all words
-
+-- The set bits of all words.
 abbrev pub total : Occupancy → ℕ
 total o = sum 64 (λ i. popcount (wordOf o i))
 
@@ -87,6 +87,7 @@ module _ (slots : ℕ) (o : Occupancy) (r : Right slots o) (i v s c : ℕ) (h : 
   abbrev pub put : Occupancy
   put = occupancy s (set (o .words) i v) c
 
+  -- Word i is one of the list.
   fits : i < length (o .words)
   fits = omega (arith, r .long)
 

@@ -46,6 +46,7 @@ is-zero : (b c : ℕ) → c ≡ 1 - b → c ≡ 1 → b ≡ 0
 is-zero b c e z = omega arith
 
 module _ (x k : ℕ) (hx : x < 2 ^ 64 - 1) (hk : k < 64) where
+  -- the complement, turned
   abbrev turned : ℕ
   turned = rotatedRight (2 ^ 64 - 1 - x) k
 
