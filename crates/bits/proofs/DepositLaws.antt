@@ -213,7 +213,8 @@ low-digit zero n x zero above e h = omega (arith, bit-first (above n * 2))
 low-digit zero n x (suc i) above e h = omega (arith, bit-next (above n * 2) i, ap (λ (z : ℕ). bitAt z i) (half-even (above n)), bit-next x i, h n i)
 low-digit (suc b) zero x i above e h = omega (arith, bit-zero i)
 low-digit (suc b) (suc n) x zero above e h = omega (arith, bit-first (above n * 2 + 1), bit-first x)
-low-digit (suc b) (suc n) x (suc i) above e h = omega (arith, bit-next (above n * 2 + 1) i, ap (λ (z : ℕ). bitAt z i) (half-odd (above n)), bit-next x i, h n i)
+low-digit (suc b) (suc n) x (suc i) above e h =
+    omega (arith, bit-next (above n * 2 + 1) i, ap (λ (z : ℕ). bitAt z i) (half-odd (above n)), bit-next x i, h n i)
 
 -- The lowest set bits are among the set bits.
 pub low-bit : (d n x i : ℕ) → bitAt (lowest d n x) i ≤ bitAt x i

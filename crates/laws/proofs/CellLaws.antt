@@ -7,7 +7,8 @@ use lib.ListN.{length, getD, set}
 use lib.Seq.{getD-set-same, getD-set-other}
 
 -- What holds of v at i, and elsewhere of what was there, holds everywhere after the store.
-pub set-at : (P : ℕ → ℕ → Type 0) (l : List ℕ) (i v : ℕ) → i < length l → P i v → ((j : ℕ) → (j ≡ i → ⊥) → P j (getD l j 0)) → (j : ℕ) → P j (getD (set l i v) j 0)
+pub set-at : (P : ℕ → ℕ → Type 0) (l : List ℕ) (i v : ℕ) → i < length l → P i v → ((j : ℕ) → (j ≡ i → ⊥) → P j (getD l j 0)) → (j : ℕ)
+    → P j (getD (set l i v) j 0)
 set-at P l i v h here there j = go (ℕ-discrete j i)
   where
     go : Dec (j ≡ i) → P j (getD (set l i v) j 0)

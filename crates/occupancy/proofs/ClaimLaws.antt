@@ -45,7 +45,8 @@ module _ (o : Occupancy) (m w : ℕ) where
   pub claim-past : w % 64 + 64 ≤ found → claim o m w ≡ nothing o
   unfolding claim
   claim-past h =
-      ap (λ (b : Bool). cond b (nothing o) (claimIn o m w (found % 64))) (ap (λ (b : Bool). eqb m 0 || b) (le-leb (w % 64 + 64) found h) ∙ or-true (eqb m 0))
+      ap (λ (b : Bool). cond b (nothing o) (claimIn o m w (found % 64)))
+      (ap (λ (b : Bool). eqb m 0 || b) (le-leb (w % 64 + 64) found h) ∙ or-true (eqb m 0))
 
   -- A word has room.
   pub claim-found : (m ≡ 0 → ⊥) → found < w % 64 + 64 → claim o m w ≡ claimIn o m w (found % 64)
@@ -164,6 +165,9 @@ module _ (slots : ℕ) (o : Occupancy) (r : Right slots o) (m i j : ℕ) (hi : i
         count = refl;
       }
     where
+      same : (b : ℕ) → isSet mask b ≡ false → bitAt next b ≡ bitAt word b
+      same b e = omega (arith, add-bit b word mask apart, set-none mask b e)
+
       inside : (b : ℕ) → b < 64 → isSet mask b ≡ true → Dec (i * 64 + b < slots) → i * 64 + b < slots
       inside b h e (yes l) = l
       inside b h e (no l) =
@@ -174,7 +178,7 @@ module _ (slots : ℕ) (o : Occupancy) (r : Right slots o) (m i j : ℕ) (hi : i
       other q e (yes l) =
           ap (λ (k : ℕ). isSet (wordOf after k) (q % 64)) l
           ∙ ap (λ (z : ℕ). isSet z (q % 64)) (put-same slots o r i next summary′ (o .count + popcount mask) hi)
-          ∙ ap (λ (z : ℕ). eqb z 1) (let k : bitAt next (q % 64) ≡ bitAt word (q % 64) = omega (arith, add-bit (q % 64) word mask apart, set-none mask (q % 64) (e l)) in k)
+          ∙ ap (λ (z : ℕ). eqb z 1) (same (q % 64) (e l))
           ∙ ap (λ (k : ℕ). isSet (wordOf o k) (q % 64)) (sym l)
       other q e (no l) = ap (λ (z : ℕ). isSet z (q % 64)) (put-other slots o r i next summary′ (o .count + popcount mask) hi (q / 64) l)
 
@@ -206,7 +210,8 @@ module _ (slots : ℕ) (o : Occupancy) (r : Right slots o) (m w : ℕ) where
 
   -- What holds of no claim, and of what is taken of the word with room, holds of a claim.
   by-claim : (P : Claim → Type 0) → ((m ≡ 0) ⊎ (w % 64 + 64 ≤ scan) → P (nothing o))
-      → ((h : scan < w % 64 + 64) → 0 < m → Right slots (taking o index taken .occupancy) → Took slots m o index taken (taking o index taken .occupancy) → P (taking o index taken)) → P (claim o m w)
+      → (0 < m → Right slots (taking o index taken .occupancy) → Took slots m o index taken (taking o index taken .occupancy) → P (taking o index taken))
+      → P (claim o m w)
   unfolding claimIn taking
   by-claim P none some = go (ℕ-discrete m 0) (decLt scan (w % 64 + 64))
     where
@@ -214,14 +219,14 @@ module _ (slots : ℕ) (o : Occupancy) (r : Right slots o) (m w : ℕ) where
       go (yes e) d = subst P (sym (claim-none o m w e)) (none (inl e))
       go (no n) (yes h) =
           subst P (sym (claim-found o m w n h))
-          (some h (omega arith)
+          (some (omega arith)
           (taking-right slots o r m index rotation (mod-lt scan (lit< tt)) (mod-lt (w / 64) (lit< tt)) (room-found (o .words) (w % 64) h))
           (taking-took slots o r m index rotation (mod-lt scan (lit< tt)) (mod-lt (w / 64) (lit< tt)) (room-found (o .words) (w % 64) h) (omega arith)))
       go (no n) (no h) = subst P (sym (claim-past o m w (omega arith))) (none (inr (omega arith)))
 
   -- A claim keeps the occupancy right.
   pub claim-right : Right slots (claim o m w .occupancy)
-  claim-right = by-claim (λ c. Right slots (c .occupancy)) (λ e. r) (λ h p a b. a)
+  claim-right = by-claim (λ c. Right slots (c .occupancy)) (λ e. r) (λ p a b. a)
 
   -- A claim that took something took free slots of one word, as many as it may, and nothing else.
   pub claim-took : (i mask : ℕ) → claim o m w .answer ≡ Taken i mask → Took slots m o i mask (claim o m w .occupancy)
@@ -229,10 +234,11 @@ module _ (slots : ℕ) (o : Occupancy) (r : Right slots o) (m w : ℕ) where
   claim-took =
       by-claim (λ c. (i mask : ℕ) → c .answer ≡ Taken i mask → Took slots m o i mask (c .occupancy))
       (λ e i mask q. absurd (let z : _≡_ {A = ℕ} 0 1 = cc in let y : ⊥ = omega arith in y))
-      (λ h p a b i mask q.
+      (λ p a b i mask q.
       let e : index ≡ i = cc in
       let f : taken ≡ mask = cc in
-      subst (λ (z : ℕ). Took slots m o z mask (taking o index taken .occupancy)) e (subst (λ (z : ℕ). Took slots m o index z (taking o index taken .occupancy)) f b))
+      subst (λ (z : ℕ). Took slots m o z mask (taking o index taken .occupancy)) e
+      (subst (λ (z : ℕ). Took slots m o index z (taking o index taken .occupancy)) f b))
 
   -- Where all words are all ones, all slots are taken.
   words-full : ((i : ℕ) → i < 64 → wordOf o i ≡ allOnes) → o .count ≡ slots
@@ -250,12 +256,12 @@ module _ (slots : ℕ) (o : Occupancy) (r : Right slots o) (m w : ℕ) where
   claim-nothing =
       by-claim (λ c. c .answer ≡ Nothing → (m ≡ 0) ⊎ (o .count ≡ slots))
       (λ e q. ⊎-elim inl (λ l. inr (words-full (room-none (o .words) (w % 64) (mod-lt w (lit< tt)) l))) e)
-      (λ h p a b q. absurd (let z : _≡_ {A = ℕ} 0 1 = cc in let y : ⊥ = omega arith in y))
+      (λ p a b q. absurd (let z : _≡_ {A = ℕ} 0 1 = cc in let y : ⊥ = omega arith in y))
 
   -- A claim finds nothing, and changes nothing, where it wants none or all slots are taken.
   pub claim-finds-nothing : (m ≡ 0) ⊎ (o .count ≡ slots) → claim o m w ≡ nothing o
   claim-finds-nothing why =
       by-claim (λ c. c ≡ nothing o) (λ e. refl)
-      (λ h p a b.
+      (λ p a b.
       ⊎-elim (λ e. absurd (let z : ⊥ = omega arith in z))
       (λ e. absurd (let z : ⊥ = omega (arith, b .some, b .count, count-most slots (taking o index taken .occupancy) a) in z)) why)

@@ -24,7 +24,8 @@ fresh-length (suc d) n = ap suc (fresh-length d (n - 64))
 
 -- The bits from k on, in two parts.
 from : (k : ℕ) → k ≤ 64 → 2 ^ 64 - 2 ^ k ≡ (2 ^ (64 - k) - 1) * 2 ^ k + 0
-from k h = ap (λ (z : ℕ). 2 ^ z - 2 ^ k) (let e : 64 ≡ 64 - k + k = omega arith in e) ∙ high-ones (64 - k) k ∙ sym (add-zero ((2 ^ (64 - k) - 1) * 2 ^ k))
+from k h =
+    ap (λ (z : ℕ). 2 ^ z - 2 ^ k) (let e : 64 ≡ 64 - k + k = omega arith in e) ∙ high-ones (64 - k) k ∙ sym (add-zero ((2 ^ (64 - k) - 1) * 2 ^ k))
 
 -- Below k they are clear.
 pub from-low : (k i : ℕ) → k ≤ 64 → i < k → bitAt (2 ^ 64 - 2 ^ k) i ≡ 0
@@ -47,7 +48,8 @@ pub fresh-at : (d n i : ℕ) → i < d → getD (freshWords d n) i 0 ≡ 2 ^ 64 
 unfolding freshWords
 fresh-at zero n i h = absurd (let z : ⊥ = omega arith in z)
 fresh-at (suc d) n zero h = ap (λ (z : ℕ). 2 ^ 64 - 2 ^ min z 64) (sym (sub-zero n))
-fresh-at (suc d) n (suc i) h = fresh-at d (n - 64) i (omega arith) ∙ ap (λ (z : ℕ). 2 ^ 64 - 2 ^ min z 64) (let e : n - 64 - 64 * i ≡ n - 64 * suc i = omega arith in e)
+fresh-at (suc d) n (suc i) h =
+    fresh-at d (n - 64) i (omega arith) ∙ ap (λ (z : ℕ). 2 ^ 64 - 2 ^ min z 64) (let e : n - 64 - 64 * i ≡ n - 64 * suc i = omega arith in e)
 
 -- Each is a word.
 pub fresh-small : (d n i : ℕ) → getD (freshWords d n) i 0 < 2 ^ 64

@@ -5,7 +5,7 @@ use mathlib.Core.Bool.{Bool, true, false, _&&_, not}
 use mathlib.Core.List.{List}
 use mathlib.Core.Logic.{_⊎_, inl, inr, ⊎-elim}
 use Prim.Native.Nat.{ℕ, zero, suc, _+_, _-_, _*_, _/_, _%_, _^_, _≤_, _<_}
-use native.Mathlib.Nat.{mod-lt, one-mul, zero-add, lt-of-le-of-lt, sub-le}
+use native.Mathlib.Nat.{mod-lt, one-mul, zero-add, add-zero, lt-of-le-of-lt, sub-le}
 use native.Mathlib.Numerals.{add-one}
 use native.Mathlib.Decide.{ℕ-discrete, decLt}
 use native.Mathlib.Omega.{arith}
@@ -17,7 +17,7 @@ use Rattle.laws.specs.Choice.{sum}
 use Rattle.laws.specs.Word.{allOnes, bitAt, isSet, clearBit, popcount}
 use Rattle.laws.proofs.CondLaws.{and-true}
 use Rattle.laws.proofs.FirstLaws.{tested}
-use Rattle.laws.proofs.SumLaws.{sum-same, sum-split}
+use Rattle.laws.proofs.SumLaws.{sum-one, sum-same, sum-split}
 use Rattle.laws.proofs.WordLaws.{ones-none, ones-pow}
 use Rattle.laws.proofs.BitLaws.{lt-or-le, bit-lt, bit-zero, bit-past, bit-pow-same, bit-pow-other, bit-clear-same, bit-clear-other, clear-lt, set-one, set-none}
 use Rattle.laws.proofs.MaskLaws.{Within, within-le, sub-bit, sub-ones}
@@ -47,7 +47,8 @@ module _ (slots : ℕ) (o : Occupancy) (r : Right slots o) (i mask : ℕ) (held 
 
   -- The slots released are taken.
   pub held-within : Within mask word
-  held-within = record { bits = λ b. ⊎-elim (λ h. inside b h (tested (isSet mask b))) (λ h. omega (arith, bit-past 64 mask b (held .word) h)) (lt-or-le b 64) }
+  held-within =
+      record { bits = λ b. ⊎-elim (λ h. inside b h (tested (isSet mask b))) (λ h. omega (arith, bit-past 64 mask b (held .word) h)) (lt-or-le b 64) }
     where
       inside : (b : ℕ) → b < 64 → (isSet mask b ≡ true) ⊎ (isSet mask b ≡ false) → bitAt mask b ≤ bitAt word b
       inside b h (inl e) = omega (arith, bit-lt mask b, set-one word b (held .held b h e .1))
@@ -126,7 +127,8 @@ module _ (slots : ℕ) (o : Occupancy) (r : Right slots o) (i mask : ℕ) (held 
   -- The count falls by as many.
   pub word-count : releaseSlotsByWord o i mask .count + popcount mask ≡ o .count
   word-count =
-      by-word (λ x. x .count + popcount mask ≡ o .count) (λ z. ap (λ (m : ℕ). o .count + popcount m) z ∙ zero-count (o .count)) (λ z. omega (arith, held-most))
+      by-word (λ x. x .count + popcount mask ≡ o .count) (λ z. ap (λ (m : ℕ). o .count + popcount m) z ∙ zero-count (o .count))
+      (λ z. omega (arith, held-most))
     where
       zero-count : (c : ℕ) → c + popcount 0 ≡ c
       zero-count c = omega (arith, ones-none 64)
@@ -216,7 +218,8 @@ unfolding foldIn
 fold-start o pending = refl
 
 -- One turn of the code's loop.
-pub fold-turn : (i : ℕ) (pending : List ℕ) (o o′ x : Occupancy) → i < 64 → foldFrom (64 - i) i pending o ≡ x → o′ ≡ releaseSlotsByWord o i (getD pending i 0)
+pub fold-turn : (i : ℕ) (pending : List ℕ) (o o′ x : Occupancy) → i < 64 → foldFrom (64 - i) i pending o ≡ x
+    → o′ ≡ releaseSlotsByWord o i (getD pending i 0)
     → foldFrom (64 - (i + 1)) (i + 1) pending o′ ≡ x
 unfolding foldFrom
 fold-turn i pending o o′ x h e p =
@@ -240,29 +243,43 @@ record Folded (slots : ℕ) (before : Occupancy) (from : ℕ) (pending : List �
   pub count : after .count + freed ≡ before .count
 
 module _ (slots : ℕ) (pending : List ℕ) where
+  -- the occupancy without the pending slots of word i
+  abbrev pub less : Occupancy → ℕ → Occupancy
+  less o i = releaseSlotsByWord o i (getD pending i 0)
+
+  -- how many slots are pending in d words from word i on
+  abbrev freedIn : ℕ → ℕ → ℕ
+  freedIn d i = sum d (λ j. popcount (getD pending (i + j) 0))
+
   -- The pending slots of the next word may be released.
   pub next-held : (o : Occupancy) (i : ℕ) → i < 64 → Pending slots o i pending → Held slots o i (getD pending i 0)
   next-held o i h p =
       record {
         place = h;
         word = p .small i h;
-        held = λ b l e.
-            let k = p .held (i * 64 + b) (omega arith) (omega arith) (ap₂ (λ (j c : ℕ). isSet (getD pending j 0) c) (slot-word i b l) (slot-bit i b l) ∙ e) in
+        held =
+            λ b l e.
+            let set : isSet (getD pending ((i * 64 + b) / 64) 0) ((i * 64 + b) % 64) ≡ true =
+            ap₂ (λ (j c : ℕ). isSet (getD pending j 0) c) (slot-word i b l) (slot-bit i b l) ∙ e in
+            let k = p .held (i * 64 + b) (omega arith) (omega arith) set in
             (k .0, sym (slot-taken o i b l) ∙ k .1);
       }
 
   -- Those of the words behind it stay pending.
-  pub rest-pending : (o : Occupancy) (i : ℕ) (r : Right slots o) (h : i < 64) (p : Pending slots o i pending) → Pending slots (releaseSlotsByWord o i (getD pending i 0)) (suc i) pending
+  rest-pending : (o : Occupancy) (i : ℕ) → Right slots o → i < 64 → Pending slots o i pending → Pending slots (less o i) (suc i) pending
   rest-pending o i r h p =
       record {
         small = p .small;
-        held = λ q l u e.
+        held =
+            λ q l u e.
             let k = p .held q (omega arith) u e in
-            (k .0, word-other slots o r i (getD pending i 0) (next-held o i h p) q (λ z. let y : ⊥ = omega arith in y) ∙ k .1);
+            let same : isTaken (less o i) q ≡ isTaken o q =
+            word-other slots o r i (getD pending i 0) (next-held o i h p) q (λ z. let y : ⊥ = omega arith in y) in
+            (k .0, same ∙ k .1);
       }
 
   -- Both stand after one turn of the code's loop.
-  pub next-right : (o o′ : Occupancy) (i : ℕ) → i < 64 → Right slots o × Pending slots o i pending → o′ ≡ releaseSlotsByWord o i (getD pending i 0)
+  pub next-right : (o o′ : Occupancy) (i : ℕ) → i < 64 → Right slots o × Pending slots o i pending → o′ ≡ less o i
       → ((n : ℕ) × (Right n o′ × Pending n o′ (i + 1) pending))
   next-right o o′ i h p e = (
     slots,
@@ -270,8 +287,46 @@ module _ (slots : ℕ) (pending : List ℕ) where
         (word-right slots o (p .0) i (getD pending i 0) (next-held o i h (p .1)), rw add-one (rest-pending o i (p .0) h (p .1))),
   )
 
+  -- One word more of the fold.
+  fold-word : (d i : ℕ) (o x : Occupancy) → Right slots o → Held slots o i (getD pending i 0)
+      → Folded slots (less o i) (suc i) pending x (freedIn d (suc i)) → Folded slots o i pending x (freedIn (suc d) i)
+  fold-word d i o x r held rest =
+      let m : ℕ = getD pending i 0 in
+      record {
+        right = rest .right;
+        kept = λ q l. rest .kept q (omega arith) ∙ word-other slots o r i m held q (λ z. let y : ⊥ = omega arith in y);
+        free =
+            λ q l u.
+            elim (decLt q (suc i * 64)) [
+              | yes y ↦
+                  let z : q / 64 ≡ i = omega arith in
+                  rest .kept q y ∙ word-same slots o r i m held q z
+                  ∙ ap (λ (j : ℕ). isTaken o q && not (isSet (getD pending j 0) (q % 64))) (sym z)
+              | no y ↦
+                  rest .free q (omega arith) u
+                  ∙ ap (λ (b : Bool). b && not (isSet (getD pending (q / 64) 0) (q % 64)))
+                  (word-other slots o r i m held q (λ z. let y : ⊥ = omega arith in y))
+            ];
+        count =
+            omega (
+              arith,
+              rest .count,
+              word-count slots o r i m held,
+              freed-word d i,
+            );
+      }
+    where
+      freed-word : (d i : ℕ) → freedIn (suc d) i ≡ popcount (getD pending i 0) + freedIn d (suc i)
+      freed-word d i =
+          ap (λ (z : ℕ). sum z (λ j. popcount (getD pending (i + j) 0))) (let y : suc d ≡ 1 + d = omega arith in y)
+          ∙ sum-split 1 d (λ j. popcount (getD pending (i + j) 0))
+          ∙ ap₂ _+_ (sum-one (λ j. popcount (getD pending (i + j) 0)) ∙ ap (λ (z : ℕ). popcount (getD pending z 0)) (add-zero i))
+          (sum-same d (λ j. popcount (getD pending (i + (1 + j)) 0)) (λ j. popcount (getD pending (suc i + j) 0))
+          (λ j l. ap (λ (z : ℕ). popcount (getD pending z 0)) (let y : i + (1 + j) ≡ suc i + j = omega arith in y)))
+
   -- The fold, word by word.
-  fold-from : (d i : ℕ) (o : Occupancy) → i + d ≡ 64 → Right slots o → Pending slots o i pending → Folded slots o i pending (foldFrom d i pending o) (sum d (λ j. popcount (getD pending (i + j) 0)))
+  fold-from : (d i : ℕ) (o : Occupancy) → i + d ≡ 64 → Right slots o → Pending slots o i pending
+      → Folded slots o i pending (foldFrom d i pending o) (freedIn d i)
   unfolding foldFrom sum
   fold-from zero i o e r p =
       record {
@@ -282,46 +337,13 @@ module _ (slots : ℕ) (pending : List ℕ) where
       }
   fold-from (suc d) i o e r p =
       let h : i < 64 = omega arith in
-      let m : ℕ = getD pending i 0 in
-      let held : Held slots o i m = next-held o i h p in
-      turn d i o h r held
-      (fold-from d (suc i) (releaseSlotsByWord o i m) (omega arith) (word-right slots o r i m held) (rest-pending o i r h p))
-    where
-      turn : (d i : ℕ) (o : Occupancy) (h : i < 64) (r : Right slots o) (held : Held slots o i (getD pending i 0)) → Folded slots (releaseSlotsByWord o i (getD pending i 0)) (suc i) pending (foldFrom d (suc i) pending (releaseSlotsByWord o i (getD pending i 0))) (sum d (λ j. popcount (getD pending (suc i + j) 0)))
-          → Folded slots o i pending (foldFrom d (suc i) pending (releaseSlotsByWord o i (getD pending i 0))) (sum (suc d) (λ j. popcount (getD pending (i + j) 0)))
-      turn d i o h r held rest =
-          let m : ℕ = getD pending i 0 in
-          record {
-            right = rest .right;
-            kept = λ q l. rest .kept q (omega arith) ∙ word-other slots o r i m held q (λ z. let y : ⊥ = omega arith in y);
-            free =
-                λ q l u.
-                elim (decLt q (suc i * 64)) [
-                  | yes y ↦
-                      let z : q / 64 ≡ i = omega arith in
-                      rest .kept q y ∙ word-same slots o r i m held q z
-                      ∙ ap (λ (j : ℕ). isTaken o q && not (isSet (getD pending j 0) (q % 64))) (sym z)
-                  | no y ↦
-                      rest .free q (omega arith) u
-                      ∙ ap (λ (x : Bool). x && not (isSet (getD pending (q / 64) 0) (q % 64)))
-                      (word-other slots o r i m held q (λ z. let y : ⊥ = omega arith in y))
-                ];
-            count =
-                omega (
-                  arith,
-                  rest .count,
-                  word-count slots o r i m held,
-                  sum-split 1 d (λ j. popcount (getD pending (i + j) 0)),
-                  ap (λ (z : ℕ). sum z (λ j. popcount (getD pending (i + j) 0))) (let y : 1 + d ≡ suc d = omega arith in y),
-                  sum-same d (λ j. popcount (getD pending (i + (1 + j)) 0)) (λ j. popcount (getD pending (suc i + j) 0))
-                      (λ j l. ap (λ (z : ℕ). popcount (getD pending z 0)) (let y : i + (1 + j) ≡ suc i + j = omega arith in y)),
-                  ap (λ (z : ℕ). popcount (getD pending z 0)) (let y : i + 0 ≡ i = omega arith in y),
-                );
-          }
+      let held : Held slots o i (getD pending i 0) = next-held o i h p in
+      fold-word d i o (foldFrom d (suc i) pending (less o i)) r held
+      (fold-from d (suc i) (less o i) (omega arith) (word-right slots o r i (getD pending i 0) held) (rest-pending o i r h p))
 
   module _ (o : Occupancy) (r : Right slots o) (p : Pending slots o 0 pending) where
     -- The fold of all 64 words.
-    whole : Folded slots o 0 pending (foldIn o pending) (sum 64 (λ j. popcount (getD pending (0 + j) 0)))
+    whole : Folded slots o 0 pending (foldIn o pending) (freedIn 64 0)
     unfolding foldIn
     whole = fold-from 64 0 o refl r p
 

@@ -32,9 +32,11 @@ free-none (suc d) i w = digit (bitAt w (i % 64)) (i % 64) (λ m. firstFree d m (
     digit (suc b) at after e = e
 
 -- One digit of `run`.
-run-digit : (b n i : ℕ) (after above : ℕ → ℕ) → b < 2 → ((m : ℕ) → after m ≡ above m * (2 ^ i * 2)) → freeBit b n i after ≡ lowDigit (1 - b) n above * 2 ^ i
+run-digit : (b n i : ℕ) (after above : ℕ → ℕ) → b < 2 → ((m : ℕ) → after m ≡ above m * (2 ^ i * 2))
+    → freeBit b n i after ≡ lowDigit (1 - b) n above * 2 ^ i
 run-digit zero zero i after above h e = sym (zero-mul (2 ^ i))
-run-digit zero (suc n) i after above h e = omega (arith, e n, mul-assoc (above n) 2 (2 ^ i), ap (λ (z : ℕ). above n * z) (mul-comm (2 ^ i) 2), add-mul (above n * 2) 1 (2 ^ i))
+run-digit zero (suc n) i after above h e =
+    omega (arith, e n, mul-assoc (above n) 2 (2 ^ i), ap (λ (z : ℕ). above n * z) (mul-comm (2 ^ i) 2), add-mul (above n * 2) 1 (2 ^ i))
 run-digit (suc zero) n i after above h e = omega (arith, e n, mul-assoc (above n) 2 (2 ^ i), ap (λ (z : ℕ). above n * z) (mul-comm (2 ^ i) 2))
 run-digit (suc (suc b)) n i after above h e = absurd (let z : ⊥ = omega arith in z)
 
@@ -75,7 +77,8 @@ two zero e n i w =
     ∙ sym (zero-add (firstFree e (n - 0) (i + 0) w))
 two (suc d) e n i w =
     ap (λ (z : ℕ). firstFree z n i w) (suc-add d e)
-    ∙ two-digit (bitAt w (i % 64)) n (freeIn d (suc i) w) (i % 64) (λ m. firstFree (d + e) m (suc i) w) (λ m. firstFree d m (suc i) w) (λ m. firstFree e m (suc i + d) w)
+    ∙ two-digit (bitAt w (i % 64)) n (freeIn d (suc i) w) (i % 64) (λ m. firstFree (d + e) m (suc i) w) (λ m. firstFree d m (suc i) w)
+    (λ m. firstFree e m (suc i + d) w)
     (bit-lt w (i % 64)) (free-none e (suc i + d) w) (λ m. two d e m (suc i) w)
     ∙ ap (λ (z : ℕ). freeBit (bitAt w (i % 64)) n (i % 64) (λ m. firstFree d m (suc i) w) + firstFree e (n - (1 - bitAt w (i % 64) + freeIn d (suc i) w)) z w)
     (let q : suc i + d ≡ i + suc d = omega arith in q)

@@ -1,4 +1,4 @@
--- What is right of one span's occupancy, and what may be released of it. Assumes nothing.
+-- One span's occupancy: when it is right, what may be released of it, what a claim took of it, and the summary's first clear bit. Assumes nothing.
 use mathlib.Core.Path.{_≡_}
 use mathlib.Core.Bool.{Bool, true, false, not, cond}
 use mathlib.Core.List.{List}

@@ -55,7 +55,8 @@ deposit-returns-3 :
     deposit-lts.Need-returns-3 (deposit-below t, deposit.Post) (deposit-at t) deposit.Post
 deposit-returns-3 t c =
     let s = c .before .before .before in
-    low-step (s .args .n) (s .args .word) (c .deposit .result) (c .before .before .if1 .left) (c .before .if2 .left) (s .fits .word .fits) (c .deposit .ensures)
+    low-step (s .args .n) (s .args .word) (c .deposit .result) (c .before .before .if1 .left) (c .before .if2 .left) (s .fits .word .fits)
+    (c .deposit .ensures)
 
 pub +deposit-spec : {M : Type 1} → statement M
 +deposit-spec =

@@ -59,9 +59,11 @@ returns-2 c =
     let word = c .before .before .before .before .before .before .free-word in
     let mask = c .before .before .before .before .window in
     let count = c .before .before .before .count in
-    claim-made (s .pre .0) o (s .pre .1) (s .args .max) (s .args .random) (word .result) (mask .result) (c .set-bit .result) (o .count + count .result)
+    claim-made (s .pre .0) o (s .pre .1) (s .args .max) (s .args .random) (word .result) (mask .result) (c .set-bit .result)
+    (o .count + count .result)
     (c .before .before .before .before .before .before .before .before .if1 .left)
-    (omega (arith, s .pre .1 .top, eqb-false (o .summary) allOnes (c .before .before .before .before .before .before .before .if2 .left))) (word .ensures) (mask .ensures)
+    (omega (arith, s .pre .1 .top, eqb-false (o .summary) allOnes (c .before .before .before .before .before .before .before .if2 .left)))
+    (word .ensures) (mask .ensures)
     (c .set-bit .ensures ∙ sym (ap (λ (b : Bool). cond b (setBit (o .summary) (word .result)) (o .summary)) (eq-eqb (bitOr (wordOf o (word .result)) (mask .result)) allOnes (c .before .if3 .taken))))
     (ap (λ (z : ℕ). o .count + z) (count .ensures))
 
@@ -74,7 +76,8 @@ returns-3 c =
     let count = c .before .before .count in
     claim-made (s .pre .0) o (s .pre .1) (s .args .max) (s .args .random) (word .result) (mask .result) (o .summary) (o .count + count .result)
     (c .before .before .before .before .before .before .before .if1 .left)
-    (omega (arith, s .pre .1 .top, eqb-false (o .summary) allOnes (c .before .before .before .before .before .before .if2 .left))) (word .ensures) (mask .ensures)
+    (omega (arith, s .pre .1 .top, eqb-false (o .summary) allOnes (c .before .before .before .before .before .before .if2 .left))) (word .ensures)
+    (mask .ensures)
     (sym (ap (λ (b : Bool). cond b (setBit (o .summary) (word .result)) (o .summary)) (ne-eqb (bitOr (wordOf o (word .result)) (mask .result)) allOnes (c .if3 .left))))
     (ap (λ (z : ℕ). o .count + z) (count .ensures))
 

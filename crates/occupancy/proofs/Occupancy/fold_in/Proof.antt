@@ -47,7 +47,8 @@ loop-again c =
     let p = at .inv .1 in
     let h : at .i < 64 = omega arith in
     let e : c .if1 .o ≡ releaseSlotsByWord (at .o) (at .i) (getD pending (at .i) 0) =
-    ⊎-elim {C = c .if1 .o ≡ releaseSlotsByWord (at .o) (at .i) (getD pending (at .i) 0)} (λ w. w .2 ∙ w .1 .ensures) (λ w. w .1 ∙ released-none (at .o) (at .i) (getD pending (at .i) 0) (w .0 .left)) (c .if1 .came) in
+    ⊎-elim {C = c .if1 .o ≡ releaseSlotsByWord (at .o) (at .i) (getD pending (at .i) 0)} (λ w. w .2 ∙ w .1 .ensures)
+    (λ w. w .1 ∙ released-none (at .o) (at .i) (getD pending (at .i) 0) (w .0 .left)) (c .if1 .came) in
     (omega arith, next-right (p .0) pending (at .o) (c .if1 .o) (at .i) h (p .1) e, fold-turn (at .i) pending (at .o) (c .if1 .o) (foldIn (s .args .self) pending) h (at .inv .2) e)
 
 returns : tie.Need-returns Inv-loop μ-loop

@@ -48,7 +48,8 @@ returns-2 c =
     let less : bitAnd (wordOf (a .self) (a .word)) (2 ^ 64 - 1 - a .freed) ≡ wordOf (a .self) (a .word) - a .freed =
     within-not 64 (a .freed) (wordOf (a .self) (a .word)) (held .word) (p .1 .0 .small (a .word) (held .place))
     (held-within (p .0) (a .self) (p .1 .0) (a .word) (a .freed) held) in
-    released (a .self) (a .word) (a .freed) (c .before .before .before .before .if1 .left) (c .before .before .clear-bit .ensures) less (c .before .count .ensures)
+    released (a .self) (a .word) (a .freed) (c .before .before .before .before .if1 .left) (c .before .before .clear-bit .ensures) less
+    (c .before .count .ensures)
 
 pub release-slots-by-word-spec : {M : Type 1} → statement M
 release-slots-by-word-spec =
