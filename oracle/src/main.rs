@@ -12,6 +12,8 @@ mod utils;
 
 // The harness.
 mod call;
+#[cfg(compiled)]
+mod compare;
 mod cover;
 mod driver;
 mod generate;
@@ -44,6 +46,8 @@ fn main() {
         ["mixes"] => mixes::command(),
         ["selftest"] => selftest::command("40"),
         ["selftest", lists] => selftest::command(lists),
+        #[cfg(compiled)]
+        ["compare", operations] => compare::command(operations),
         _ => Err(USAGE.to_string()),
     };
     if let Err(message) = outcome {

@@ -110,7 +110,10 @@ pub fn command() -> Result<(), String> {
         .map_err(|error| error.to_string())?;
     let lists = read_lists(&input)?;
     let [list] = lists.as_slice() else {
-        return Err(format!("one list is recorded at a time, not {}", lists.len()));
+        return Err(format!(
+            "one list is recorded at a time, not {}",
+            lists.len()
+        ));
     };
     let source = input.lines().next().unwrap_or_default().trim();
     std::io::stdout()

@@ -7,7 +7,7 @@ use native.Mathlib.Nat.{add-suc, suc-add, zero-add}
 use native.Mathlib.Numerals.{add-one}
 use native.Mathlib.Omega.{arith}
 use lib.ListN.{length, take, drop, getD, set, replicate, length-append, length-take, length-drop, length-set, drop-of-length-le, List·getD-append}
-use lib.Seq.{paste, paste-suc, take-suc-set, drop-set-lt, getD-take, getD-drop, getD-append-add, length-take-le, length-paste-head, append-snoc, take-all, drop-length}
+use lib.Seq.{paste, paste-suc, take-paste, drop-paste, drop-drop, take-append-add, take-suc-set, drop-set-lt, getD-take, getD-drop, getD-append-add, length-take-le, length-paste-head, append-snoc, take-all, drop-length}
 
 -- A copy of one cell more is a store and a copy of the rest.
 pub paste-cons : (d : List ℕ) (at x : ℕ) (xs : List ℕ) (n : ℕ) → at < length d → paste d at (x ∷ xs) (suc n) ≡ paste (set d at x) (suc at) xs n
@@ -76,3 +76,20 @@ gather-all d at s e n q h =
     q
     ∙ ap (λ (z : List ℕ). take n (drop at s) ++ z) (drop-of-length-le d {i = 0 + n} (omega arith))
     ∙ append-nil (take n (drop at s))
+
+-- A copy of two rows, one behind the other, is a copy of the first and then of the second.
+pub paste-append :
+    (d : List ℕ) (at : ℕ) (xs ys : List ℕ) (n m : ℕ) →
+    length xs ≡ n →
+    at + n ≤ length d →
+    paste d at (xs ++ ys) (n + m) ≡ paste (paste d at xs n) (at + n) ys m
+paste-append d at xs ys n m lx h =
+    let front : take (at + n) (paste d at xs n) ≡ take at d ++ take n xs = take-paste d at xs n (omega arith) (omega arith) in
+    let back : drop (at + n + m) (paste d at xs n) ≡ drop (at + n + m) d =
+    sym (drop-drop m (at + n) (paste d at xs n))
+    ∙ ap (drop m) (drop-paste d at xs n (omega arith) (omega arith))
+    ∙ drop-drop m (at + n) d in
+    let copied : take (n + m) (xs ++ ys) ≡ take n xs ++ take m ys =
+    ap (λ (z : ℕ). take (z + m) (xs ++ ys)) (sym lx) ∙ take-append-add xs ys m ∙ ap (λ (z : List ℕ). z ++ take m ys) (sym (take-all n xs (omega arith))) in
+    let e : at + (n + m) ≡ at + n + m = omega arith in
+    rw (copied, front, back, e) (ap (λ (z : List ℕ). z ++ drop (at + n + m) d) (sym (append-assoc (take at d) (take n xs) (take m ys))))

@@ -3,16 +3,17 @@ use occupancy::Claimed;
 use occupancy::Occupancy;
 use tables::ClassHeap;
 ghost use mathlib.Core.Path.{_≡_};
-ghost use mathlib.Core.List.{List};
+ghost use mathlib.Core.List.{List, [], _∷_, _++_};
 ghost use Prim.Native.Nat.{ℕ, _+_, _≤_, _<_};
-ghost use lib.ListN.{length, take, drop, getD};
-ghost use lib.Seq.{paste};
+ghost use lib.ListN.{length, take, drop, getD, replicate};
+ghost use lib.Seq.{paste, sets};
 ghost use Rattle.size_classes.specs.Slots.{mostSlots};
-ghost use Rattle.occupancy.specs.Occupied.{claim as claimOf, foldIn};
+ghost use Rattle.occupancy.specs.Occupied.{freshOf, claim as claimOf, foldIn};
 ghost use Rattle.occupancy.specs.Right.{Right};
-ghost use Rattle.tables.specs.Cells.{tables as table, spanCell, occupiedField};
+ghost use Rattle.tables.specs.Shape.{bitmapCells};
+ghost use Rattle.tables.specs.Cells.{tables as table, bitmapCell, spanCell, localSummary, classField, occupiedField};
 ghost use Rattle.span.specs.Room.{WordCells, FieldCells, SpanCells, Foldable, occupancyIn, pendingIn};
-ghost use Rattle.span.specs.Span.{loaded, stored as storedIn, isFull, isEmpty, hasPending, deallocSlot, clearPending, reclaimPending, folded, remoteFree};
+ghost use Rattle.span.specs.Span.{loaded, stored as storedIn, isFull, isEmpty, hasPending, deallocSlot, clearPending, reclaimPending, folded, remoteFree, newSpan};
 
 // "A block is free (bit clear), cached (in its owner's magazine), pending, or out (occupied, neither cached nor pending)."
 pub enum BlockState {
@@ -185,4 +186,41 @@ pub fn claim(bits: &mut [u64], spans: &mut [u64], s: u64, max: u64, random: u64)
     let next = c.occupancy;
     store(bits, spans, s, next);
     c.answer
+}
+
+// The words of span s as of a new span of so many slots.
+fn blank(bits: &mut [u64], s: u64, slots: u64)
+    requires { ⌜ WordCells (now bits) s ⌝ }
+    requires { ⌜ slots ≤ 4096 ⌝ }
+    ensures { λ _. ⌜ now (bits .exit) ≡ paste (now (bits .entry)) (bitmapCell s localSummary) ((freshOf slots .summary ∷ freshOf slots .words) ++ replicate 65 0) bitmapCells ⌝ }
+{
+    let o = Occupancy::fresh(slots);
+    let words = o.words;
+    tables::put_word(bits, s, LOCAL_SUMMARY, o.summary);
+    put_words(bits, tables::bitmap_cell(s, LOCAL_WORDS), words);
+    clear_pending(bits, s);
+}
+
+// The record of span s as of a new span: nothing taken, no links.
+fn new_record(spans: &mut [u64], s: u64, class: u64, owner: u64)
+    requires { ⌜ FieldCells (now spans) s ⌝ }
+    ensures { λ _. ⌜ now (spans .exit) ≡ sets (now (spans .entry)) (spanCell s classField) (class ∷ owner ∷ 0 ∷ 0 ∷ 0 ∷ []) ⌝ }
+{
+    tables::put_field(spans, s, 0, class);
+    tables::put_field(spans, s, 1, owner);
+    tables::put_field(spans, s, 2, 0);
+    tables::put_field(spans, s, 3, 0);
+    tables::put_field(spans, s, 4, 0);
+}
+
+// The next unused span, written new.
+pub fn new_span(bits: &mut [u64], spans: &mut [u64], used: &mut u64, k: ClassHeap)
+    requires { ⌜ SpanCells (now bits) (now spans) (now used) ⌝ }
+    requires { ⌜ k .slots ≤ 4096 ⌝ }
+    ensures { λ _. ⌜ ((e h : List ℕ) → table (now (bits .exit)) (now (spans .exit)) e h (now (used .exit)) ≡ newSpan (table (now (bits .entry)) (now (spans .entry)) e h (now (used .entry))) k) ⌝ }
+{
+    let s = *used;
+    blank(bits, s, k.slots);
+    new_record(spans, s, k.class, k.owner);
+    *used = s + 1;
 }

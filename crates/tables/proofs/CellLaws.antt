@@ -58,6 +58,11 @@ pub span-next : (s f j : ℕ) → spanCell s (f + j) ≡ spanCell s f + j
 unfolding spanCell
 span-next s f j = omega arith
 
+-- a record has a cell for each span before it
+pub span-least : (s f : ℕ) → s ≤ spanCell s f
+unfolding spanCell recordCells
+span-least s f = omega arith
+
 -- class, owner, occupied, previous and next are fields of a record
 pub field-in : {f : ℕ} → f ≤ nextField → f < recordCells
 unfolding recordCells

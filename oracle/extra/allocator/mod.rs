@@ -13,6 +13,7 @@ pub(crate) mod door {
 
     pub use super::non_crypto_rng::{script_from_seed, script_from_words, words_used};
     pub use size_classes::SIZE_CLASS_COUNT;
+    pub use span::Bare;
 
     type Node = NonNull<LinkedListNode<span::Span>>;
 
@@ -63,6 +64,14 @@ pub(crate) mod door {
 
     pub fn slots_per_span(index: usize) -> usize {
         class(index).slots_per_span() as usize
+    }
+
+    pub fn slot_index(index: usize, offset: usize) -> usize {
+        class(index).slot_index(offset) as usize
+    }
+
+    pub fn bare_occupancy(index: usize) -> span::Bare {
+        span::Bare::new(class(index))
     }
 
     pub fn magazine_layout(index: usize) -> (usize, usize, usize) {

@@ -33,3 +33,30 @@ impl Span {
             && local.occupancy.cells() == fresh.occupancy.cells()
     }
 }
+
+/// One span's local side alone, for the comparison of claims and releases.
+pub struct Bare(LocalOccupancy);
+
+impl Bare {
+    pub fn new(size_class: SizeClass) -> Self {
+        Self(LocalOccupancy::new(size_class))
+    }
+
+    pub fn claim(&mut self, max: u32, random: u64) -> Option<(usize, u64)> {
+        self.0.claim_up_to(max, random)
+    }
+
+    pub fn release(&mut self, slot: u16) {
+        self.0.release_slot(slot);
+    }
+
+    pub fn release_word(&mut self, word: usize, freed: u64) {
+        self.0.release_slots_by_word(word, freed);
+    }
+
+    /// Summary, words and count.
+    pub fn cells(&self) -> (u64, [u64; 64], u64) {
+        let (summary, words) = self.0.occupancy.cells();
+        (*summary, *words, self.0.slots_occupied as u64)
+    }
+}
