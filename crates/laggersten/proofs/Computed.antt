@@ -10,7 +10,7 @@ use Rattle.magazine_layout.specs.Layout.{magazineBytes, leastCapacity, mostCapa
 use Rattle.tables.specs.Shape.{mostHeaps, mostSpans, rowOf, baseOf, classHeap}
 use Rattle.tables.specs.Cells.{rightShape, rightLengths, asStated, freshTables}
 use Rattle.span.specs.State.{stateOf}
-use Rattle.sound.specs.Decided.{spanSound, belongs, listSound, entrySound, classSound, sound, isSound}
+use Rattle.sound.specs.Decided.{spanFilled, spanSound, belongs, listSound, entrySound, magazineSound, classSound, sound, isSound}
 use Rattle.class_heap.proofs.Computed.{stepwise}
 use Rattle.heap.specs.Heap.{granted, draw, allocSmall, deallocLocal}
 use Rattle.primary.specs.Primary.{deallocSmall}
@@ -21,5 +21,5 @@ use Rattle.laggersten.specs.Summary.{overSpans, pendingSlots, classRecor
 
 -- `computed x` is x
 unfoldable pub computed : {A : Type 0} → A → A
-unfolding stepwise decLe decLt ℕ-discrete sum chain times rising groups slotSizes leastAlignment largestSlot raised fits smallestClass inRange fewestSlots slotsPerSpan startsSlot magazineBytes leastCapacity mostCapacity capacityFor lowWaterFor magazineOffset entriesPerHeap mostHeaps mostSpans rowOf baseOf classHeap rightShape rightLengths asStated freshTables stateOf spanSound belongs listSound entrySound classSound sound isSound granted draw allocSmall deallocLocal deallocSmall fresh guarded wordsNeeded allocateSound allocate namesSlot freed freeSound free runBy wordStep wordsFrom littleEndian recordBytes recordCall answerCells batchFrom wholeRecords batch overSpans pendingSlots classRecord summaryCells classRecords summary
+unfolding stepwise decLe decLt ℕ-discrete sum chain times rising groups slotSizes leastAlignment largestSlot raised fits smallestClass inRange fewestSlots slotsPerSpan startsSlot magazineBytes leastCapacity mostCapacity capacityFor lowWaterFor magazineOffset entriesPerHeap mostHeaps mostSpans rowOf baseOf classHeap rightShape rightLengths asStated freshTables stateOf spanFilled spanSound belongs listSound entrySound magazineSound classSound sound isSound granted draw allocSmall deallocLocal deallocSmall fresh guarded wordsNeeded allocateSound allocate namesSlot freed freeSound free runBy wordStep wordsFrom littleEndian recordBytes recordCall answerCells batchFrom wholeRecords batch overSpans pendingSlots classRecord summaryCells classRecords summary
 computed x = x

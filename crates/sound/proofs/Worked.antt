@@ -14,7 +14,7 @@ use Rattle.magazine_layout.specs.Layout.{magazineBytes, leastCapacity, mostCapa
 use Rattle.tables.specs.Shape.{Shape, bitmapCells, recordCells, headCells, rowOf, baseOf, classHeap}
 use Rattle.tables.specs.Cells.{Tables, tables, bitmapCell, spanCell, headCell, entrySpan, entrySlot}
 use Rattle.tables.proofs.Tiny.{tiny, blank}
-use Rattle.sound.specs.Decided.{spanSound, belongs, listSound, entrySound, classSound, sound, isSound}
+use Rattle.sound.specs.Decided.{spanFilled, spanSound, belongs, listSound, entrySound, magazineSound, classSound, sound, isSound}
 
 -- a full span, and room for a second: the local side all ones, nothing pending
 abbrev bits : List ℕ
@@ -68,7 +68,7 @@ pub record WorkedSoundness : Type 0 where
   pub count : answer bits spans entries (set heads 4 9) 1 ≡ false
 
 pub worked : WorkedSoundness
-unfolding decLe decLt ℕ-discrete sum chain times walk largestSlot mostSlots fewestSlots slotsPerSpan magazineBytes leastCapacity mostCapacity capacityFor lowWaterFor magazineOffset entriesPerHeap bitmapCells recordCells headCells rowOf baseOf classHeap bitmapCell spanCell headCell entrySpan entrySlot spanSound belongs listSound entrySound classSound sound isSound
+unfolding decLe decLt ℕ-discrete sum chain times walk largestSlot mostSlots fewestSlots slotsPerSpan magazineBytes leastCapacity mostCapacity capacityFor lowWaterFor magazineOffset entriesPerHeap bitmapCells recordCells headCells rowOf baseOf classHeap bitmapCell spanCell headCell entrySpan entrySlot spanFilled spanSound belongs listSound entrySound magazineSound classSound sound isSound
 worked =
     record {
       fresh = refl;

@@ -14,16 +14,15 @@ use Rattle.tables.specs.Shape.{Shape, classes, classHeap, bitmapCells}
 use Rattle.tables.specs.Cells.{Tables, bitmapWord, localSummary, localWord, remoteSummary, remoteWord, classAt, ownerAt, occupiedAt, previousAt, nextAt, headAt, partialList, fullList, emptyList, reserve, countAt, entryAt, entrySpan, entrySlot}
 use Rattle.linked_list.specs.Lists.{listOf}
 use Rattle.span.specs.State.{isOccupied, isPending}
-use Rattle.sound.specs.Sound.{homeOf, setBits, placesIn, SpanSound, Belongs, ListSound, EntrySound, Partial, Full, Empty, ClassSound, Sound}
+use Rattle.sound.specs.Sound.{homeOf, setBits, placesIn, SpanFilled, SpanSound, Belongs, EntrySound, MagazineSound, ListSound, Partial, Full, Empty, ClassSound, Sound}
 
-unfoldable pub spanSound : (g : Shape) (t : Tables) (s : ℕ) → Dec (SpanSound g t s)
-spanSound g t s =
+unfoldable pub spanFilled : (g : Shape) (t : Tables) (s : ℕ) → Dec (SpanFilled g t s)
+spanFilled g t s =
     same
     (λ r.
     record {
       class = r .0 .0;
       owner = r .0 .1;
-      listed = r .0 .2;
       word = r .1 .0;
       occupied = r .1 .1;
       past = r .1 .2;
@@ -31,9 +30,9 @@ spanSound g t s =
       remote = r .2 .1;
       pending = r .2 .2;
     })
-    (λ r. ((r .class, r .owner, r .listed), (r .word, r .occupied, r .past), (r .summary, r .remote, r .pending)))
+    (λ r. ((r .class, r .owner), (r .word, r .occupied, r .past), (r .summary, r .remote, r .pending)))
     (three
-    (three (decLt (classAt t s) (classes g)) (decLt (ownerAt t s) (g .heaps)) (ℕ-discrete (placesIn t (homeOf g t s) s) 1))
+    (both (decLt (classAt t s) (classes g)) (decLt (ownerAt t s) (g .heaps)))
     (three (below (λ i. decLt (bitmapWord t s i) (2 ^ 64)) bitmapCells)
     (ℕ-discrete (occupiedAt t s) (setBits t s (homeOf g t s .slots)))
     (below (λ q. given (decLe (homeOf g t s .slots) q) (Bool-discrete (isOccupied t s q) true)) mostSlots))
@@ -43,6 +42,12 @@ spanSound g t s =
     (below
     (λ q. given (Bool-discrete (isPending t s q) true) (both (decLt q (homeOf g t s .slots)) (Bool-discrete (isOccupied t s q) true)))
     mostSlots)))
+
+unfoldable pub spanSound : (g : Shape) (t : Tables) (s : ℕ) → Dec (SpanSound g t s)
+unfolding spanFilled
+spanSound g t s =
+    same (λ r. record { cells = r .0; listed = r .1 }) (λ r. (r .cells, r .listed))
+    (both (spanFilled g t s) (ℕ-discrete (placesIn t (homeOf g t s) s) 1))
 
 unfoldable pub belongs : (t : Tables) (k : ClassHeap) (s : ℕ) → Dec (Belongs t k s)
 belongs t k s =
@@ -67,28 +72,25 @@ entrySound t k e =
     (both (Bool-discrete (isOccupied t (entrySpan e) (entrySlot e)) true)
     (Bool-discrete (isPending t (entrySpan e) (entrySlot e)) false)))
 
+unfoldable pub magazineSound : (t : Tables) (k : ClassHeap) → Dec (MagazineSound t k)
+unfolding entrySound
+magazineSound t k =
+    same (λ r. record { count = r .0; entries = r .1; distinct = r .2 }) (λ r. (r .count, r .entries, r .distinct))
+    (three (decLe (countAt t k) (k .capacity)) (below (λ i. entrySound t k (entryAt t k i)) (countAt t k))
+    (below (λ j. below (λ i. never (ℕ-discrete (entryAt t k i) (entryAt t k j))) j) (countAt t k)))
+
 unfoldable pub classSound : (t : Tables) (k : ClassHeap) → Dec (ClassSound t k)
-unfolding listSound entrySound
+unfolding listSound magazineSound
 classSound t k =
     same
     (λ r.
-    record {
-      partial = r .0 .0;
-      full = r .0 .1;
-      empty = r .0 .2;
-      kept = r .1 .0;
-      alone = r .1 .1;
-      count = r .2 .0;
-      entries = r .2 .1;
-      distinct = r .2 .2;
-    })
-    (λ r. ((r .partial, r .full, r .empty), (r .kept, r .alone), (r .count, r .entries, r .distinct)))
+    record { partial = r .0 .0; full = r .0 .1; empty = r .0 .2; kept = r .1 .0; alone = r .1 .1; magazine = r .2 })
+    (λ r. ((r .partial, r .full, r .empty), (r .kept, r .alone), r .magazine))
     (three
     (three (listSound t k partialList (λ n. both (decLt 0 n) (decLt n (k .slots)))) (listSound t k fullList (λ n. ℕ-discrete n (k .slots)))
     (listSound t k emptyList (λ n. ℕ-discrete n 0)))
     (both (listSound t k reserve (λ n. ℕ-discrete n 0)) (allOf (λ s. ℕ-discrete (nextAt t s) 0) (listOf t k reserve)))
-    (three (decLe (countAt t k) (k .capacity)) (below (λ i. entrySound t k (entryAt t k i)) (countAt t k))
-    (below (λ j. below (λ i. never (ℕ-discrete (entryAt t k i) (entryAt t k j))) j) (countAt t k))))
+    (magazineSound t k))
 
 unfoldable pub sound : (g : Shape) (t : Tables) → Dec (Sound g t)
 unfolding spanSound classSound

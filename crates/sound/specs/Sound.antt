@@ -27,12 +27,11 @@ abbrev pub placesIn : Tables → ClassHeap → ℕ → ℕ
 placesIn t k s =
     times s (listOf t k partialList) + times s (listOf t k fullList) + times s (listOf t k emptyList) + times s (listOf t k reserve)
 
-pub record SpanSound (g : Shape) (t : Tables) (s : ℕ) : Type 0 where
+-- the cells of one used span, all but its place in a list
+pub record SpanFilled (g : Shape) (t : Tables) (s : ℕ) : Type 0 where
   -- "with valid class and owner"
   pub class : classAt t s < classes g
   pub owner : ownerAt t s < g .heaps
-  -- "each is in one list or reserve of its owner and class"
-  pub listed : placesIn t (homeOf g t s) s ≡ 1
   -- a cell is a number of 64 bits
   pub word : (i : ℕ) → i < bitmapCells → bitmapWord t s i < 2 ^ 64
   -- "occupied equals the in-range set bits"
@@ -46,20 +45,16 @@ pub record SpanSound (g : Shape) (t : Tables) (s : ℕ) : Type 0 where
   -- "a pending bit stands only on an occupied slot in range"
   pub pending : (q : ℕ) → q < mostSlots → isPending t s q ≡ true → (q < homeOf g t s .slots) × (isOccupied t s q ≡ true)
 
+pub record SpanSound (g : Shape) (t : Tables) (s : ℕ) : Type 0 where
+  pub cells : SpanFilled g t s
+  -- "each is in one list or reserve of its owner and class"
+  pub listed : placesIn t (homeOf g t s) s ≡ 1
+
 -- a used span of that heap and class
 pub record Belongs (t : Tables) (k : ClassHeap) (s : ℕ) : Type 0 where
   pub used : s < t .used
   pub class : classAt t s ≡ k .class
   pub owner : ownerAt t s ≡ k .owner
-
--- one list of a class; `Named` is what its name says of a span's occupied count
-pub record ListSound (t : Tables) (k : ClassHeap) (f : ℕ) (Named : ℕ → Type 0) : Type 0 where
-  -- "linked both ways"
-  pub linked : Chain (previousAt t) (nextAt t) 0 (headAt t k f) (listOf t k f)
-  -- "lists and reserves hold no other span"
-  pub own : All (Belongs t k) (listOf t k f)
-  -- "partial means neither empty nor full, a reserve is empty, the others as named"
-  pub named : All (λ s. Named (occupiedAt t s)) (listOf t k f)
 
 -- an entry below the count
 pub record EntrySound (t : Tables) (k : ClassHeap) (e : ℕ) : Type 0 where
@@ -69,6 +64,24 @@ pub record EntrySound (t : Tables) (k : ClassHeap) (e : ℕ) : Type 0 where
   pub inRange : entrySlot e < k .slots
   pub occupied : isOccupied t (entrySpan e) (entrySlot e) ≡ true
   pub notPending : isPending t (entrySpan e) (entrySlot e) ≡ false
+
+-- the magazine of one class of one heap
+pub record MagazineSound (t : Tables) (k : ClassHeap) : Type 0 where
+  -- "counts are within capacity"
+  pub count : countAt t k ≤ k .capacity
+  -- "magazine entries below the count are .. slots of used spans, in range, occupied, not pending, and of that heap and class"
+  pub entries : (i : ℕ) → i < countAt t k → EntrySound t k (entryAt t k i)
+  -- "distinct"
+  pub distinct : (j : ℕ) → j < countAt t k → (i : ℕ) → i < j → entryAt t k i ≡ entryAt t k j → ⊥
+
+-- one list of a class; `Named` is what its name says of a span's occupied count
+pub record ListSound (t : Tables) (k : ClassHeap) (f : ℕ) (Named : ℕ → Type 0) : Type 0 where
+  -- "linked both ways"
+  pub linked : Chain (previousAt t) (nextAt t) 0 (headAt t k f) (listOf t k f)
+  -- "lists and reserves hold no other span"
+  pub own : All (Belongs t k) (listOf t k f)
+  -- "partial means neither empty nor full, a reserve is empty, the others as named"
+  pub named : All (λ s. Named (occupiedAt t s)) (listOf t k f)
 
 abbrev pub Partial : ClassHeap → ℕ → Type 0
 Partial k n = (0 < n) × (n < k .slots)
@@ -86,12 +99,7 @@ pub record ClassSound (t : Tables) (k : ClassHeap) : Type 0 where
   pub kept : ListSound t k reserve Empty
   -- "a reserve with no links": none before it, as the first of a list, and none after it
   pub alone : All (λ s. nextAt t s ≡ 0) (listOf t k reserve)
-  -- "counts are within capacity"
-  pub count : countAt t k ≤ k .capacity
-  -- "magazine entries below the count are .. slots of used spans, in range, occupied, not pending, and of that heap and class"
-  pub entries : (i : ℕ) → i < countAt t k → EntrySound t k (entryAt t k i)
-  -- "distinct"
-  pub distinct : (j : ℕ) → j < countAt t k → (i : ℕ) → i < j → entryAt t k i ≡ entryAt t k j → ⊥
+  pub magazine : MagazineSound t k
 
 pub record Sound (g : Shape) (t : Tables) : Type 0 where
   -- "used spans are within the limit"
