@@ -1,3 +1,4 @@
 pub mod Worked
 pub mod ReachLaws
 pub mod StoreLaws
+pub mod ListCells
