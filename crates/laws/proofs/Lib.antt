@@ -1,10 +1,13 @@
 pub mod BitLaws
 pub mod CellLaws
+pub mod ChainLaws
+pub mod ChainSteps
 pub mod CondLaws
 pub mod Division
 pub mod FirstLaws
 pub mod MaskLaws
 pub mod PasteLaws
+pub mod Pigeonhole
 pub mod Powers
 pub mod Rising
 pub mod SumLaws
