@@ -5,7 +5,10 @@ pub mod ChainSteps
 pub mod CondLaws
 pub mod Division
 pub mod FirstLaws
+pub mod ListedChains
+pub mod ListedLaws
 pub mod MaskLaws
+pub mod MemberLaws
 pub mod PasteLaws
 pub mod Pigeonhole
 pub mod Powers

@@ -5,6 +5,8 @@ use mathlib.Core.Path.{_≡_}
 use mathlib.Core.Bool.{cond}
 use Prim.Native.Nat.{ℕ, _+_, _<_}
 use lib.Dec.{eqb}
+use Rattle.laws.specs.Links.{Chain, walk}
+use Rattle.laws.specs.Members.{Mem}
 
 -- y is next after s
 pub record After (previous home rank : ℕ → ℕ) (s y : ℕ) : Type 0 where
@@ -30,6 +32,14 @@ pub record Listed (IsList Single : ℕ → Type 0) (used : ℕ) (previous next h
   pub first : (s : ℕ) → IsList (home s) → previous s ≡ 0 → head (home s) ≡ s + 1
   pub front : (c s : ℕ) → IsList c → head c ≡ s + 1 → Front previous home c s
   pub alone : (s : ℕ) → IsList (home s) → Single (home s) → next s ≡ 0
+
+-- the lists spelled out: a chain of links from each head, and every element in the one list that is its home
+pub record Lists (IsList Single : ℕ → Type 0) (used : ℕ) (previous next head home : ℕ → ℕ) : Type 0 where
+  pub each : (c : ℕ) → IsList c → Chain previous next 0 (head c) (walk next used (head c))
+  -- it holds no other
+  pub own : (c s : ℕ) → IsList c → Mem s (walk next used (head c)) → (s < used) × (home s ≡ c)
+  pub all : (s : ℕ) → s < used → IsList (home s) × Mem s (walk next used (head (home s)))
+  pub alone : (s : ℕ) → s < used → Single (home s) → next s ≡ 0
 
 -- a is now at the front of list h
 pub record Pushed (previous next head previous′ next′ head′ : ℕ → ℕ) (h a : ℕ) : Type 0 where
