@@ -4,3 +4,5 @@ pub mod StoreLaws
 pub mod ListCells
 pub mod QuietLaws
 pub mod LinksKept
+pub mod ChainKept
+pub mod ListedKept

@@ -16,11 +16,8 @@ use Rattle.tables.specs.Cells.{Tables, tables, spanCell, spanField, previousFie
 use Rattle.tables.proofs.CellLaws.{span-same, field-in, head-same, list-in}
 use Rattle.linked_list.specs.Lists.{setLinked, setLinks, push, remove}
 use Rattle.linked_list.specs.Reach.{Links}
+use Rattle.linked_list.specs.Named.{headsAt}
 use Rattle.linked_list.proofs.ReachLaws.{field-here, linked-here, head-here}
-
--- the head in a cell
-abbrev pub headsAt : Tables → ℕ → ℕ
-headsAt t c = getD (t .heads) c 0
 
 -- ---- cells of a span table
 

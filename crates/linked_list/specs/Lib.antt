@@ -1,3 +1,4 @@
 pub mod Lists
 pub mod Reach
 pub mod Quiet
+pub mod Named
