@@ -97,12 +97,21 @@ module _ {n : ℕ} (t : Tables) (k : ClassHeap) (f : ℕ) (r : Links n (t .spans
 
 -- ---- the same of the lists as they are walked
 module _ {n : ℕ} (t : Tables) (k : ClassHeap) (f : ℕ) (r : Links n (t .spans) (t .heads) (k .row)) (hf : f ≤ reserve) (c : ChainOf t k f (listOf t k f)) (own : (s : ℕ) → Mem s (listOf t k f) → s < t .used) where
+  -- one span more, in front
   pub push-list : (s : ℕ) → s < n → s < t .used → (Mem s (listOf t k f) → ⊥) → listOf (push t k f s) k f ≡ s ∷ listOf t k f
   push-list s hs hu out =
       list-whole (push t k f s) k f (s ∷ listOf t k f) (push-chain t k f r hf (listOf t k f) c s hs out)
       (λ y m. unfold push in ⊎-elim (λ e. omega arith) (λ i. own y i) m)
 
+  -- one span fewer
   pub remove-list : (s : ℕ) → s < n → Mem s (listOf t k f) → listOf (remove t k f s) k f ≡ without s (listOf t k f)
   remove-list s hs here =
       list-whole (remove t k f s) k f (without s (listOf t k f)) (remove-chain t k f r hf (listOf t k f) c s hs here)
       (λ y m. unfold remove in own y (without-mem s y (listOf t k f) m))
+
+  -- the front gone
+  pub pop-list : (s : ℕ) (xs : List ℕ) → listOf t k f ≡ s ∷ xs → listOf (pop t k f) k f ≡ xs
+  pop-list s xs e =
+      let d : ChainOf t k f (s ∷ xs) = subst (λ (l : List ℕ). ChainOf t k f l) e c in
+      list-whole (pop t k f) k f xs (pop-chain t k f r hf s xs d)
+      (λ y m. rw (pop-front t k f r hf s xs d) (unfold remove in own y (subst (λ (l : List ℕ). Mem y l) (sym e) (inr m))))

@@ -6,3 +6,4 @@ pub mod QuietLaws
 pub mod LinksKept
 pub mod ChainKept
 pub mod ListedKept
+pub mod PlacedLaws

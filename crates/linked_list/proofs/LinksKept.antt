@@ -6,7 +6,7 @@ use Prim.Native.Nat.{ℕ, zero, suc, _+_, _-_, _<_, _≤_}
 use native.Mathlib.Omega.{arith}
 use lib.ListN.{length, getD, set, length-set}
 use Rattle.tables.specs.declared.ClassHeap.{ClassHeap}
-use Rattle.tables.specs.Cells.{Tables, tables, headAt, reserve}
+use Rattle.tables.specs.Cells.{Tables, tables, headAt, setHead, reserve}
 use Rattle.linked_list.specs.Lists.{push, remove, pop}
 use Rattle.linked_list.specs.Reach.{Links}
 use Rattle.linked_list.proofs.ListCells.{push-spans-length, push-heads-length, remove-spans-length, remove-heads-length}
@@ -66,3 +66,14 @@ module _ {n row : ℕ} (t : Tables) (k : ClassHeap) (f : ℕ) (r : Links n (t .s
   pub pop-links : headAt t k f ≤ n → 0 < headAt t k f → Links n (pop t k f .spans) (pop t k f .heads) row
   unfolding pop
   pop-links old some = remove-links (headAt t k f - 1) (omega arith)
+
+  -- and so does a store to a head of a link in range
+  pub put-links : (v : ℕ) → v ≤ n → Links n (setHead t k f v .spans) (setHead t k f v .heads) row
+  put-links v hv =
+      record {
+        room = r .room;
+        previous = r .previous;
+        next = r .next;
+        rows = λ g h. simp length-set (r .rows g h);
+        fronts = λ g h. let x = r .fronts g h in search within;
+      }
