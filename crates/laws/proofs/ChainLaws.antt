@@ -13,7 +13,9 @@ use Rattle.laws.specs.Members.{Mem, NoDup}
 use Rattle.laws.proofs.Pigeonhole.{few}
 
 -- the same chain under other functions that agree on its elements
-pub chain-as : {previous next previous′ next′ : ℕ → ℕ} (xs : List ℕ) (p x : ℕ) → ((s : ℕ) → Mem s xs → previous′ s ≡ previous s) → ((s : ℕ) → Mem s xs → next′ s ≡ next s) → Chain previous next p x xs → Chain previous′ next′ p x xs
+pub chain-as :
+    {previous next previous′ next′ : ℕ → ℕ} (xs : List ℕ) (p x : ℕ) → ((s : ℕ) → Mem s xs → previous′ s ≡ previous s) →
+    ((s : ℕ) → Mem s xs → next′ s ≡ next s) → Chain previous next p x xs → Chain previous′ next′ p x xs
 chain-as [] p x ep en c = c
 chain-as {previous} {next} {previous′} {next′} (y ∷ ys) p x ep en c = (
   record { here = c .0 .here; back = ep y (inl refl) ∙ c .0 .back },
@@ -79,7 +81,9 @@ module _ (previous next : ℕ → ℕ) where
   chain-next (z ∷ xs) p x y s c (inr m) e = inr (chain-next xs (z + 1) (next z) y s (c .1) m e)
 
   -- what is left after an element of the chain
-  pub chain-rest : (xs : List ℕ) (p x s : ℕ) → C p x xs → Mem s xs → (zs : List ℕ) × C (s + 1) (next s) zs × (length zs < length xs) × ((y : ℕ) → Mem y zs → Mem y xs)
+  pub chain-rest :
+      (xs : List ℕ) (p x s : ℕ) → C p x xs → Mem s xs →
+      (zs : List ℕ) × C (s + 1) (next s) zs × (length zs < length xs) × ((y : ℕ) → Mem y zs → Mem y xs)
   chain-rest [] p x s c m = absurd m
   chain-rest (z ∷ xs) p x s c (inl q) = (xs, subst (λ (w : ℕ). C (w + 1) (next w) xs) (sym q) (c .1), omega arith, λ y i. inr i)
   chain-rest (z ∷ xs) p x s c (inr m) =
@@ -87,7 +91,9 @@ module _ (previous next : ℕ → ℕ) where
       (r .0, r .1, omega (arith, r .2), λ y i. inr (r .3 y i))
 
   -- what stands before an element of the chain: nothing, or an element that links on to it
-  pub chain-previous : (xs : List ℕ) (p x s : ℕ) → C p x xs → Mem s xs → Joined previous p x s ⊎ ((y : ℕ) × Mem y xs × (previous s ≡ y + 1) × (next y ≡ s + 1))
+  pub chain-previous :
+      (xs : List ℕ) (p x s : ℕ) → C p x xs → Mem s xs →
+      Joined previous p x s ⊎ ((y : ℕ) × Mem y xs × (previous s ≡ y + 1) × (next y ≡ s + 1))
   chain-previous [] p x s c m = absurd m
   chain-previous (z ∷ xs) p x s c (inl q) = inl (subst (λ (w : ℕ). Joined previous p x w) (sym q) (c .0))
   chain-previous (z ∷ xs) p x s c (inr m) =

@@ -46,7 +46,9 @@ module _ {previous next head previous′ next′ head′ : ℕ → ℕ} {h a : �
     )
 
     -- another list that holds neither the pushed element nor the old front stays
-    pub chain-push-other : (c : ℕ) (xs : List ℕ) → (c ≡ h → ⊥) → Chain previous next 0 (head c) xs → (Mem a xs → ⊥) → Apart (head h) xs → Chain previous′ next′ 0 (head′ c) xs
+    pub chain-push-other :
+        (c : ℕ) (xs : List ℕ) → (c ≡ h → ⊥) → Chain previous next 0 (head c) xs → (Mem a xs → ⊥) → Apart (head h) xs →
+        Chain previous′ next′ 0 (head′ c) xs
     chain-push-other c xs n k out off =
         subst (λ (z : ℕ). Chain previous′ next′ 0 z xs) (sym (p .fronts c n))
         (chain-as xs 0 (head c)
@@ -56,7 +58,9 @@ module _ {previous next head previous′ next′ head′ : ℕ → ℕ} {h a : �
 
   module _ (r : Removed previous next head previous′ next′ head′ h a) where
     -- where a is the first, its place is taken by what stands after it
-    remove-first : (ys : List ℕ) (p : ℕ) → previous a ≡ p → Chain previous next (a + 1) (next a) ys → NoDup ys → (Mem a ys → ⊥) → Apart p ys → Chain previous′ next′ p (next a) ys
+    remove-first :
+        (ys : List ℕ) (p : ℕ) → previous a ≡ p → Chain previous next (a + 1) (next a) ys → NoDup ys → (Mem a ys → ⊥) → Apart p ys →
+        Chain previous′ next′ p (next a) ys
     remove-first [] p e c d out n = c
     remove-first (z ∷ zs) p e c d out n =
         let not-before : (y : ℕ) → Mem y (z ∷ zs) → previous a ≡ y + 1 → ⊥ = λ y m q. n y (sym e ∙ q) m in
@@ -70,12 +74,16 @@ module _ {previous next head previous′ next′ head′ : ℕ → ℕ} {h a : �
         )
 
     -- from any place of the chain before a
-    remove-from : (xs : List ℕ) (p x : ℕ) → Chain previous next p x xs → NoDup xs → Apart p xs → Mem a xs → Chain previous′ next′ p (past next a x) (without a xs)
+    remove-from :
+        (xs : List ℕ) (p x : ℕ) → Chain previous next p x xs → NoDup xs → Apart p xs → Mem a xs →
+        Chain previous′ next′ p (past next a x) (without a xs)
     unfolding without
     remove-from [] p x c d n m = absurd m
     remove-from (y ∷ ys) p x c d n m = go (ℕ-discrete a y) (λ i. remove-from ys (y + 1) (next y) (c .1) (d .1) (λ z e k. d .0 (subst (λ (w : ℕ). Mem w ys) (omega arith) k)) i)
       where
-        go : Dec (a ≡ y) → (Mem a ys → Chain previous′ next′ (y + 1) (past next a (next y)) (without a ys)) → Chain previous′ next′ p (past next a x) (without a (y ∷ ys))
+        go :
+            Dec (a ≡ y) → (Mem a ys → Chain previous′ next′ (y + 1) (past next a (next y)) (without a ys)) →
+            Chain previous′ next′ p (past next a x) (without a (y ∷ ys))
         go (yes q) rest =
             let e : x ≡ a + 1 = omega (arith, c .0 .here) in
             rw (eq-eqb a y q, eq-eqb x (a + 1) e)
@@ -114,7 +122,9 @@ module _ {previous next head previous′ next′ head′ : ℕ → ℕ} {h a : �
         subst (λ (l : List ℕ). Chain previous′ next′ 0 (head′ h) l) (without-first a xs) (chain-remove (a ∷ xs) c (inl refl))
 
     -- another list that holds neither the removed element nor a neighbour of it stays
-    pub chain-remove-other : (c : ℕ) (xs : List ℕ) → (c ≡ h → ⊥) → Chain previous next 0 (head c) xs → (Mem a xs → ⊥) → Apart (next a) xs → Apart (previous a) xs → Chain previous′ next′ 0 (head′ c) xs
+    pub chain-remove-other :
+        (c : ℕ) (xs : List ℕ) → (c ≡ h → ⊥) → Chain previous next 0 (head c) xs → (Mem a xs → ⊥) → Apart (next a) xs →
+        Apart (previous a) xs → Chain previous′ next′ 0 (head′ c) xs
     chain-remove-other c xs n k out after before =
         subst (λ (z : ℕ). Chain previous′ next′ 0 z xs) (sym (r .fronts c n))
         (chain-as xs 0 (head c)

@@ -9,9 +9,9 @@ use native.Mathlib.Omega.{arith}
 use native.Mathlib.Decide.{ℕ-discrete, decLt}
 use native.Mathlib.Nat.{eq-or-lt-of-le, le-of-suc-le-suc}
 use lib.ListN.{length}
-use lib.Dec.{eqb, ltb}
+use lib.Dec.{ltb}
 use borrow.Author.Tests.{eq-eqb, ne-eqb, lt-ltb, le-ltb}
-use Rattle.laws.specs.Links.{Joined, Chain, walk}
+use Rattle.laws.specs.Links.{Chain, walk}
 use Rattle.laws.specs.Members.{Mem}
 use Rattle.laws.specs.Listed.{After, Before, Front, Listed, Lists}
 use Rattle.laws.proofs.ChainLaws.{chain-walk, chain-walked, chain-few, chain-first, chain-back, chain-next, chain-previous, chain-rest}
@@ -58,14 +58,19 @@ module _ {IsList Single : ℕ → Type 0} {used : ℕ} {previous next head home 
       at (no m) = absurd (let z : ⊥ = omega (arith, w .below (x - 1) (omega arith)) in z)
   built (suc r) c p x i w = go (ℕ-discrete x 0) (λ k. built r c (x - 1 + 1) (next (x - 1)) i k)
     where
-      go : Dec (x ≡ 0) → (Leads c r (x - 1 + 1) (next (x - 1)) → Chain previous next (x - 1 + 1) (next (x - 1)) (walk next r (next (x - 1)))) → Chain previous next p x (walk next (suc r) x)
+      go :
+          Dec (x ≡ 0) →
+          (Leads c r (x - 1 + 1) (next (x - 1)) → Chain previous next (x - 1 + 1) (next (x - 1)) (walk next r (next (x - 1)))) →
+          Chain previous next p x (walk next (suc r) x)
       go (yes e) rest = rw (eq-eqb x 0 e) e
       go (no m) rest =
           let q : x ≡ x - 1 + 1 = omega arith in
           rw (ne-eqb x 0 m) (record { here = q; back = w .back (x - 1) q }, rest (leads-on c r (x - 1) i (w .mine (x - 1) q) (w .below (x - 1) q)))
 
   -- every element of a chain from list c is of list c
-  owned : (c : ℕ) → IsList c → (xs : List ℕ) (p x : ℕ) → ((s : ℕ) → x ≡ s + 1 → home s ≡ c) → Chain previous next p x xs → (s : ℕ) → Mem s xs → home s ≡ c
+  owned :
+      (c : ℕ) → IsList c → (xs : List ℕ) (p x : ℕ) → ((s : ℕ) → x ≡ s + 1 → home s ≡ c) → Chain previous next p x xs → (s : ℕ) → Mem s xs →
+      home s ≡ c
   owned c i [] p x e k s m = absurd m
   owned c i (y ∷ xs) p x e k s (inl q) = ap home q ∙ e y (k .0 .here)
   owned c i (y ∷ xs) p x e k s (inr m) =
@@ -102,7 +107,9 @@ module _ {IsList Single : ℕ → Type 0} {used : ℕ} {previous next head home 
   reached zero s i h = absurd (let z : ⊥ = omega (arith, over-most rank used s (l .within s i)) in z)
   reached (suc d) s i h = go (ℕ-discrete (previous s) 0) (λ y j w. reached d y j w)
     where
-      go : Dec (previous s ≡ 0) → ((y : ℕ) → IsList (home y) → over rank used ≤ rank y + d → Mem y (walk next used (head (home y)))) → Mem s (walk next used (head (home s)))
+      go :
+          Dec (previous s ≡ 0) → ((y : ℕ) → IsList (home y) → over rank used ≤ rank y + d → Mem y (walk next used (head (home y)))) →
+          Mem s (walk next used (head (home s)))
       go (yes e) up = chain-first previous next (walk next used (head (home s))) 0 (head (home s)) s (chained (home s) i) (l .first s i e)
       go (no m) up =
           let y : ℕ = previous s - 1 in

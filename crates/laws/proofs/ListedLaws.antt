@@ -18,7 +18,11 @@ unfolding changed
 changed-other f a v x n = simp (ne-eqb x a n)
 
 -- the same lists under other functions that agree where it matters
-pub listed-as : {IsList Single : ℕ → Type 0} {used used′ : ℕ} {previous next head previous′ next′ head′ home rank : ℕ → ℕ} → used ≤ used′ → ((s : ℕ) → IsList (home s) → previous′ s ≡ previous s) → ((s : ℕ) → IsList (home s) → next′ s ≡ next s) → ((c : ℕ) → IsList c → head′ c ≡ head c) → Listed IsList Single used previous next head home rank → Listed IsList Single used′ previous′ next′ head′ home rank
+pub listed-as :
+    {IsList Single : ℕ → Type 0} {used used′ : ℕ} {previous next head previous′ next′ head′ home rank : ℕ → ℕ} → used ≤ used′ →
+    ((s : ℕ) → IsList (home s) → previous′ s ≡ previous s) → ((s : ℕ) → IsList (home s) → next′ s ≡ next s) →
+    ((c : ℕ) → IsList c → head′ c ≡ head c) → Listed IsList Single used previous next head home rank →
+    Listed IsList Single used′ previous′ next′ head′ home rank
 listed-as {IsList} {Single} {used} {used′} {previous} {next} {head} {previous′} {next′} {head′} {home} {rank} u ep en eh l =
     record {
       within = λ s i. omega (arith, l .within s i);

@@ -1,14 +1,14 @@
 -- The lists of a table as chains: what push, remove and pop make of their own list, and that they leave every list apart from it alone.
 -- Assumes nothing.
-use mathlib.Core.Path.{_≡_, refl, sym, ap, subst, _∙_}
-use mathlib.Core.List.{List, [], _∷_}
+use mathlib.Core.Path.{_≡_, refl, sym, subst}
+use mathlib.Core.List.{List, _∷_}
 use mathlib.Core.Logic.{inl, inr, ⊎-elim}
-use Prim.Native.Nat.{ℕ, _+_, _-_, _<_, _≤_}
+use Prim.Native.Nat.{ℕ, _-_, _<_, _≤_}
 use native.Mathlib.Omega.{arith}
 use Rattle.laws.specs.Links.{Chain}
 use Rattle.laws.specs.Members.{Mem, without}
 use Rattle.laws.specs.Listed.{Pushed, Removed}
-use Rattle.laws.proofs.ChainLaws.{Apart, chain-walked, chain-first, chain-next, chain-previous, chain-nodup, chain-no-next, chain-no-back}
+use Rattle.laws.proofs.ChainLaws.{chain-walked, chain-first, chain-next, chain-previous, chain-nodup, chain-no-next, chain-no-back}
 use Rattle.laws.proofs.ChainSteps.{chain-push, chain-push-other, chain-remove, chain-pop, chain-remove-other}
 use Rattle.laws.proofs.MemberLaws.{without-mem}
 use Rattle.tables.specs.declared.ClassHeap.{ClassHeap}
@@ -28,7 +28,8 @@ abbrev pub Disjoint : List ℕ → List ℕ → Type 0
 Disjoint xs ys = (s : ℕ) → Mem s xs → Mem s ys → ⊥
 
 -- lists of different rows, or different lists of one row, have different heads
-pub heads-apart : (j k : ClassHeap) (g f : ℕ) → g ≤ reserve → f ≤ reserve → (j .row ≡ k .row → g ≡ f → ⊥) → headCell (j .row) g ≡ headCell (k .row) f → ⊥
+pub heads-apart :
+    (j k : ClassHeap) (g f : ℕ) → g ≤ reserve → f ≤ reserve → (j .row ≡ k .row → g ≡ f → ⊥) → headCell (j .row) g ≡ headCell (k .row) f → ⊥
 heads-apart j k g f hg hf n e = let q = head-same (j .row) (k .row) (list-in (omega arith)) (list-in (omega arith)) e in n (q .0) (q .1)
 
 -- a chain of used spans is the whole list
@@ -47,7 +48,9 @@ module _ {n : ℕ} (t : Tables) (k : ClassHeap) (f : ℕ) (r : Links n (t .spans
     push-chain = chain-push pushed xs c out
 
     -- every list that holds neither the span nor a span of this one stays
-    pub push-chain-other : (j : ClassHeap) (g : ℕ) (ys : List ℕ) → g ≤ reserve → (j .row ≡ k .row → g ≡ f → ⊥) → ChainOf t j g ys → (Mem s ys → ⊥) → Disjoint xs ys → ChainOf (push t k f s) j g ys
+    pub push-chain-other :
+        (j : ClassHeap) (g : ℕ) (ys : List ℕ) → g ≤ reserve → (j .row ≡ k .row → g ≡ f → ⊥) → ChainOf t j g ys → (Mem s ys → ⊥) →
+        Disjoint xs ys → ChainOf (push t k f s) j g ys
     push-chain-other j g ys hg other d off apart =
         chain-push-other pushed (headCell (j .row) g) ys (heads-apart j k g f hg hf other) d off
         (λ y e m. apart y (chain-first (previousAt t) (nextAt t) xs 0 (headAt t k f) y c e) m)
@@ -66,7 +69,9 @@ module _ {n : ℕ} (t : Tables) (k : ClassHeap) (f : ℕ) (r : Links n (t .spans
     remove-chain = chain-remove removed xs c here
 
     -- every list that holds no span of this one stays
-    pub remove-chain-other : (j : ClassHeap) (g : ℕ) (ys : List ℕ) → g ≤ reserve → (j .row ≡ k .row → g ≡ f → ⊥) → ChainOf t j g ys → Disjoint xs ys → ChainOf (remove t k f s) j g ys
+    pub remove-chain-other :
+        (j : ClassHeap) (g : ℕ) (ys : List ℕ) → g ≤ reserve → (j .row ≡ k .row → g ≡ f → ⊥) → ChainOf t j g ys → Disjoint xs ys →
+        ChainOf (remove t k f s) j g ys
     remove-chain-other j g ys hg other d apart =
         chain-remove-other removed (headCell (j .row) g) ys (heads-apart j k g f hg hf other) d (apart s here)
         (λ y e m. apart y (chain-next (previousAt t) (nextAt t) xs 0 (headAt t k f) s y c here e) m)
@@ -92,7 +97,9 @@ module _ {n : ℕ} (t : Tables) (k : ClassHeap) (f : ℕ) (r : Links n (t .spans
   pop-chain = rw pop-front (chain-pop (removed t k f r hf (s ∷ xs) c s front-in (inl refl)) xs c)
 
   -- every list that holds no span of this one stays
-  pub pop-chain-other : (j : ClassHeap) (g : ℕ) (ys : List ℕ) → g ≤ reserve → (j .row ≡ k .row → g ≡ f → ⊥) → ChainOf t j g ys → Disjoint (s ∷ xs) ys → ChainOf (pop t k f) j g ys
+  pub pop-chain-other :
+      (j : ClassHeap) (g : ℕ) (ys : List ℕ) → g ≤ reserve → (j .row ≡ k .row → g ≡ f → ⊥) → ChainOf t j g ys → Disjoint (s ∷ xs) ys →
+      ChainOf (pop t k f) j g ys
   pop-chain-other j g ys hg other d apart = rw pop-front (remove-chain-other t k f r hf (s ∷ xs) c s front-in (inl refl) j g ys hg other d apart)
 
 -- ---- the same of the lists as they are walked

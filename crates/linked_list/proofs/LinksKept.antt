@@ -1,12 +1,11 @@
 -- Links in range stay in range under push, remove and pop, for their own row and for every other. Assumes nothing.
-use mathlib.Core.Path.{_≡_, refl, sym, ap}
 use mathlib.Core.Bool.{Bool, true, false, cond}
 use mathlib.Core.List.{List, [], _∷_}
 use Prim.Native.Nat.{ℕ, zero, suc, _+_, _-_, _<_, _≤_}
 use native.Mathlib.Omega.{arith}
-use lib.ListN.{length, getD, set, length-set}
+use lib.ListN.{getD, set, length-set}
 use Rattle.tables.specs.declared.ClassHeap.{ClassHeap}
-use Rattle.tables.specs.Cells.{Tables, tables, headAt, setHead, reserve}
+use Rattle.tables.specs.Cells.{Tables, headAt, setHead}
 use Rattle.linked_list.specs.Lists.{push, remove, pop}
 use Rattle.linked_list.specs.Reach.{Links}
 use Rattle.linked_list.proofs.ListCells.{push-spans-length, push-heads-length, remove-spans-length, remove-heads-length}

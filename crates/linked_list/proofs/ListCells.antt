@@ -11,9 +11,9 @@ use lib.Dec.{eqb}
 use borrow.Author.Tests.{eq-eqb, ne-eqb}
 use Rattle.laws.specs.Listed.{Pushed, Removed}
 use Rattle.tables.specs.declared.ClassHeap.{ClassHeap}
-use Rattle.tables.specs.Shape.{recordCells, headCells}
-use Rattle.tables.specs.Cells.{Tables, tables, spanCell, spanField, previousField, nextField, previousAt, nextAt, headCell, headAt, reserve}
-use Rattle.tables.proofs.CellLaws.{span-same, field-in, head-same, list-in}
+use Rattle.tables.specs.Shape.{recordCells}
+use Rattle.tables.specs.Cells.{Tables, spanCell, spanField, previousField, nextField, previousAt, nextAt, headCell, headAt, reserve}
+use Rattle.tables.proofs.CellLaws.{span-same, field-in}
 use Rattle.linked_list.specs.Lists.{setLinked, setLinks, push, remove}
 use Rattle.linked_list.specs.Reach.{Links}
 use Rattle.linked_list.specs.Named.{headsAt}
@@ -62,7 +62,9 @@ linked-length f l x v = go (eqb x 0)
     go false = length-set l (spanCell (x - 1) f) v
 
 -- the links of s are stored, and no other cell
-links-other : (l : List ℕ) (s p n i : ℕ) → (i ≡ spanCell s previousField → ⊥) → (i ≡ spanCell s nextField → ⊥) → getD (setLinks l s p n) i 0 ≡ getD l i 0
+links-other :
+    (l : List ℕ) (s p n i : ℕ) → (i ≡ spanCell s previousField → ⊥) → (i ≡ spanCell s nextField → ⊥) →
+    getD (setLinks l s p n) i 0 ≡ getD l i 0
 links-other l s p n i hp hn =
     getD-set-other (set l (spanCell s previousField) p) (spanCell s nextField) i n 0 hn ∙ getD-set-other l (spanCell s previousField) i p 0 hp
 

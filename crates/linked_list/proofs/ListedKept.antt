@@ -1,17 +1,17 @@
 -- The lists of a table by home and rank, kept by push, remove, pop and the stores to a reserve: home changes at the moved span alone. Assumes nothing.
-use mathlib.Core.Path.{_≡_, refl, sym, ap, subst, _∙_}
+use mathlib.Core.Path.{_≡_, refl, sym, subst, _∙_}
 use mathlib.Core.Logic.{_⊎_, ⊎-elim}
 use Prim.Native.Nat.{ℕ, _+_, _-_, _*_, _<_, _≤_}
 use native.Mathlib.Omega.{arith}
 use native.Mathlib.Decide.{ℕ-discrete}
-use lib.ListN.{length, set}
+use lib.ListN.{length}
 use lib.Seq.{getD-set-same, getD-set-other, set-set}
-use Rattle.laws.specs.Listed.{After, Before, Front, Listed, Lists, Pushed, Removed, changed}
+use Rattle.laws.specs.Listed.{Pushed, Removed, changed}
 use Rattle.laws.proofs.ListedLaws.{listed-push, listed-remove}
 use Rattle.laws.proofs.ListedChains.{homeIn, rankIn, lists-of, listed-of}
 use Rattle.tables.specs.declared.ClassHeap.{ClassHeap}
 use Rattle.tables.specs.Shape.{Shape, classes, recordCells, rowOf}
-use Rattle.tables.specs.Cells.{Tables, tables, previousAt, nextAt, headCell, headAt, setHead, reserve, counter}
+use Rattle.tables.specs.Cells.{Tables, previousAt, nextAt, headCell, headAt, setHead, reserve, counter}
 use Rattle.tables.proofs.CellLaws.{head-same, list-in}
 use Rattle.linked_list.specs.Lists.{push, remove, pop}
 use Rattle.linked_list.specs.Reach.{Links}
@@ -38,10 +38,14 @@ pub reserve-kind : (row : ℕ) {f : ℕ} → f ≤ reserve → ReserveName (head
 reserve-kind row hf o = head-same row (o .row) (list-in (omega arith)) (list-in (omega arith)) (o .cell) .1
 
 -- both readings of the lists of a table
-pub spelled-out : {IsRow : ℕ → Type 0} (t : Tables) {home rank : ℕ → ℕ} → ListedIn IsRow t home rank → ((s : ℕ) → s < t .used → ListName IsRow (home s)) → ListsIn IsRow t home
+pub spelled-out :
+    {IsRow : ℕ → Type 0} (t : Tables) {home rank : ℕ → ℕ} → ListedIn IsRow t home rank → ((s : ℕ) → s < t .used → ListName IsRow (home s)) →
+    ListsIn IsRow t home
 spelled-out t l all = lists-of l all
 
-pub by-home : {IsRow : ℕ → Type 0} (t : Tables) {home : ℕ → ℕ} → ListsIn IsRow t home → ListedIn IsRow t (homeIn noList (t .used) home) (rankIn (t .used) (nextAt t))
+pub by-home :
+    {IsRow : ℕ → Type 0} (t : Tables) {home : ℕ → ℕ} → ListsIn IsRow t home →
+    ListedIn IsRow t (homeIn noList (t .used) home) (rankIn (t .used) (nextAt t))
 by-home {IsRow} t l = listed-of noList (no-list IsRow) l
 
 -- f is a list of k, whose row is among the rows
@@ -65,7 +69,9 @@ module _ {n : ℕ} {IsRow : ℕ → Type 0} (t : Tables) (k : ClassHeap) (f : �
     push-listed hs = unfold push in listed-push l (push-pushed t k f s r hf hs not-front) hu out name alone
 
     -- a span with no links becomes the only one of an empty list by a store to the head
-    pub put-listed : headAt t k f ≡ 0 → previousAt t s ≡ 0 → nextAt t s ≡ 0 → ListedIn IsRow (setHead t k f (s + 1)) (changed home s (headCell (k .row) f)) (changed rank s (rank (headAt t k f - 1) + 1))
+    pub put-listed :
+        headAt t k f ≡ 0 → previousAt t s ≡ 0 → nextAt t s ≡ 0 →
+        ListedIn IsRow (setHead t k f (s + 1)) (changed home s (headCell (k .row) f)) (changed rank s (rank (headAt t k f - 1) + 1))
     put-listed empty top down = listed-push l stored hu out name alone
       where
         stored : Pushed (previousAt t) (nextAt t) (headsAt t) (previousAt t) (nextAt t) (headsAt (setHead t k f (s + 1))) (headCell (k .row) f) s
@@ -139,7 +145,11 @@ link-low n x h = go (ℕ-discrete x 0)
     go (no m) = omega (arith, h (x - 1) (omega arith))
 
 -- where every used span is listed or has no links, every link is in range
-pub listed-links : {IsRow : ℕ → Type 0} (t : Tables) {home rank : ℕ → ℕ} (row : ℕ) → ListedIn IsRow t home rank → IsRow row → t .used * recordCells ≤ length (t .spans) → ((f : ℕ) → f ≤ counter → headCell row f < length (t .heads)) → ((s : ℕ) → s < t .used → ListName IsRow (home s) ⊎ ((previousAt t s ≡ 0) × (nextAt t s ≡ 0))) → Links (t .used) (t .spans) (t .heads) row
+pub listed-links :
+    {IsRow : ℕ → Type 0} (t : Tables) {home rank : ℕ → ℕ} (row : ℕ) → ListedIn IsRow t home rank → IsRow row →
+    t .used * recordCells ≤ length (t .spans) → ((f : ℕ) → f ≤ counter → headCell row f < length (t .heads)) →
+    ((s : ℕ) → s < t .used → ListName IsRow (home s) ⊎ ((previousAt t s ≡ 0) × (nextAt t s ≡ 0))) →
+    Links (t .used) (t .spans) (t .heads) row
 listed-links {IsRow} t {home} {rank} row l i room rows each =
     record {
       room = room;

@@ -1,8 +1,6 @@
 -- The lists as 01 counts them are the lists spelled out, with the one list that a span stands in as its home; and back. Assumes nothing.
 use mathlib.Core.Path.{_≡_, refl, sym, ap, subst, _∙_}
 use mathlib.Core.Bool.{cond}
-use mathlib.Core.List.{List}
-use mathlib.Core.Logic.{_⊎_, inl, inr, ⊎-elim}
 use Prim.Native.Nat.{ℕ, zero, suc, _+_, _<_, _≤_}
 use native.Mathlib.Omega.{arith}
 use native.Mathlib.Decide.{ℕ-discrete}
@@ -10,13 +8,11 @@ use lib.Dec.{eqb}
 use borrow.Author.Tests.{eq-eqb, ne-eqb}
 use Rattle.laws.specs.Links.{Chain, walk, times}
 use Rattle.laws.specs.Members.{Mem}
-use Rattle.laws.specs.Listed.{Lists}
-use Rattle.laws.proofs.Pigeonhole.{decMem}
 use Rattle.laws.proofs.ChainLaws.{chain-nodup}
 use Rattle.laws.proofs.MemberLaws.{times-none, times-some, times-once, times-mem}
 use Rattle.tables.specs.Cells.{Tables, previousAt, nextAt, headCell, reserve, partialList, fullList, emptyList}
 use Rattle.tables.proofs.CellLaws.{head-same, list-in}
-use Rattle.linked_list.specs.Named.{headsAt, ListName, ReserveName, ListsIn, rowList, placesOf, Placed}
+use Rattle.linked_list.specs.Named.{headsAt, ListsIn, rowList, placesOf, Placed}
 use Rattle.linked_list.proofs.ListedKept.{list-name, reserve-kind}
 
 -- ---- a number that stands once in four lists
@@ -77,7 +73,9 @@ only n e = go (ℕ-discrete (n 0) 0) (ℕ-discrete (n 1) 0) (ℕ-discrete (n 2) 
         })
 
 -- and back: it stands once in w and in no other, so once in all
-only-sum : (n : ℕ → ℕ) (w : ℕ) → w ≤ reserve → n w ≡ 1 → ((f : ℕ) → f ≤ reserve → (f ≡ w → ⊥) → n f ≡ 0) → n partialList + n fullList + n emptyList + n reserve ≡ 1
+only-sum :
+    (n : ℕ → ℕ) (w : ℕ) → w ≤ reserve → n w ≡ 1 → ((f : ℕ) → f ≤ reserve → (f ≡ w → ⊥) → n f ≡ 0) →
+    n partialList + n fullList + n emptyList + n reserve ≡ 1
 only-sum n w h =
     by-four (λ v. n v ≡ 1 → ((f : ℕ) → f ≤ reserve → (f ≡ v → ⊥) → n f ≡ 0) → n partialList + n fullList + n emptyList + n reserve ≡ 1) w h
     (λ e z. omega (arith, z 1 (omega arith) (λ q. omega arith), z 2 (omega arith) (λ q. omega arith), z 3 (omega arith) (λ q. omega arith)))

@@ -1,12 +1,12 @@
 -- push, remove, pop and a store to the head of a list change links and heads of lists alone, whatever the table holds. Assumes nothing.
-use mathlib.Core.Path.{_≡_, refl, sym, _∙_}
+use mathlib.Core.Path.{_≡_, refl, _∙_}
 use Prim.Native.Nat.{ℕ, _-_, _<_, _≤_}
 use native.Mathlib.Omega.{arith}
-use lib.ListN.{getD, length-set}
+use lib.ListN.{length-set}
 use lib.Seq.{getD-set-other}
 use Rattle.tables.specs.declared.ClassHeap.{ClassHeap}
 use Rattle.tables.specs.Shape.{headCells}
-use Rattle.tables.specs.Cells.{Tables, tables, classAt, ownerAt, occupiedAt, headCell, headAt, setHead, reserve, countAt}
+use Rattle.tables.specs.Cells.{Tables, classAt, ownerAt, occupiedAt, headCell, headAt, setHead, reserve, countAt}
 use Rattle.tables.proofs.CellLaws.{field-in, head-same, list-in}
 use Rattle.linked_list.specs.Lists.{push, remove, pop}
 use Rattle.linked_list.specs.Quiet.{Quiet}

@@ -10,10 +10,14 @@ front-requires : tie.Need-front-requires
 front-requires c κs = let p = c .before .before .before .pre in head-here (p .0 .1) (p .1 .0)
 
 remove-requires : tie.Need-remove-requires
-remove-requires c κs = let p = c .before .before .before .before .before .before .pre in ((p .0 .0, p .0 .1, omega (arith, c .before .before .front .ensures, p .0 .1 .fronts _ (p .1 .0))), p .1 .0)
+remove-requires c κs =
+    let p = c .before .before .before .before .before .before .pre in
+    ((p .0 .0, p .0 .1, omega (arith, c .before .before .front .ensures, p .0 .1 .fronts _ (p .1 .0))), p .1 .0)
 
 returns : tie.Need-returns
-returns c = (omega (arith, c .before .before .before .before .before .before .before .front .ensures), λ b e u. pop-made _ _ _ _ _ (c .before .before .before .before .before .before .before .front .ensures) (c .before .before .before .before .remove .ensures b e u))
+returns c =
+    let front = c .before .before .before .before .before .before .before .front .ensures in
+    (omega (arith, front), λ b e u. pop-made _ _ _ _ _ front (c .before .before .before .before .remove .ensures b e u))
 
 pub pop-spec : {M : Type 1} → statement M
 pop-spec =
