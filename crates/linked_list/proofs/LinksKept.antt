@@ -1,22 +1,15 @@
 -- Links in range stay in range under push, remove and pop, for their own row and for every other. Assumes nothing.
 use mathlib.Core.Bool.{Bool, true, false, cond}
-use mathlib.Core.List.{List, [], _∷_}
-use Prim.Native.Nat.{ℕ, zero, suc, _+_, _-_, _<_, _≤_}
+use mathlib.Core.List.{List}
+use Prim.Native.Nat.{ℕ, _+_, _-_, _<_, _≤_}
 use native.Mathlib.Omega.{arith}
 use lib.ListN.{getD, set, length-set}
+use Rattle.laws.proofs.CellLaws.{at-set}
 use Rattle.tables.specs.declared.ClassHeap.{ClassHeap}
 use Rattle.tables.specs.Cells.{Tables, headAt, setHead}
 use Rattle.linked_list.specs.Lists.{push, remove, pop}
 use Rattle.linked_list.specs.Reach.{Links}
 use Rattle.linked_list.proofs.ListCells.{push-spans-length, push-heads-length, remove-spans-length, remove-heads-length}
-
--- a cell after a store is the stored number or what it was
-at-set : (P : ℕ → Type 0) (l : List ℕ) (i j v : ℕ) → P (getD l i 0) → P v → P (getD (set l j v) i 0)
-at-set P [] i j v p q = p
-at-set P (x ∷ l) zero zero v p q = q
-at-set P (x ∷ l) zero (suc j) v p q = p
-at-set P (x ∷ l) (suc i) zero v p q = p
-at-set P (x ∷ l) (suc i) (suc j) v p q = at-set P l i j v p q
 
 -- cells at most n stay so under a store of a number at most n, made or not
 le-set : (n : ℕ) (l : List ℕ) (i j v : ℕ) → getD l i 0 ≤ n → v ≤ n → getD (set l j v) i 0 ≤ n
