@@ -22,7 +22,7 @@ abbrev pub whichOf : (ℕ → ℕ) → ℕ
 whichOf n = cond (eqb (n partialList) 0) (cond (eqb (n fullList) 0) (cond (eqb (n emptyList) 0) reserve emptyList) fullList) partialList
 
 -- what holds of each of the four holds of any
-by-four : (P : ℕ → Type 0) (f : ℕ) → f ≤ reserve → P partialList → P fullList → P emptyList → P reserve → P f
+pub by-four : (P : ℕ → Type 0) (f : ℕ) → f ≤ reserve → P partialList → P fullList → P emptyList → P reserve → P f
 by-four P zero h a b c d = a
 by-four P (suc zero) h a b c d = b
 by-four P (suc (suc zero)) h a b c d = c
