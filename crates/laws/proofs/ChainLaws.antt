@@ -29,6 +29,7 @@ Apart p xs = (y : ℕ) → p ≡ y + 1 → Mem y xs → ⊥
 
 -- ---- walking
 module _ (previous next : ℕ → ℕ) where
+  -- a chain under these links
   abbrev C : ℕ → ℕ → List ℕ → Type 0
   C = Chain previous next
 
@@ -131,12 +132,13 @@ module _ (previous next : ℕ → ℕ) where
   pub chain-walked : (n : ℕ) (xs : List ℕ) (x : ℕ) → C 0 x xs → ((s : ℕ) → Mem s xs → s < n) → walk next n x ≡ xs
   chain-walked n xs x c h = chain-walk xs n 0 x c (chain-few n xs x c h)
 
-  -- an element links neither on nor back to itself
+  -- an element does not link on to itself
   pub chain-no-next : (xs : List ℕ) (p x s : ℕ) → C p x xs → NoDup xs → Mem s xs → next s ≡ s + 1 → ⊥
   chain-no-next [] p x s c d m e = m
   chain-no-next (z ∷ xs) p x s c d (inl q) e = d .0 (chain-first xs (z + 1) (next z) z (c .1) (omega (arith, ap next q)))
   chain-no-next (z ∷ xs) p x s c d (inr m) e = chain-no-next xs (z + 1) (next z) s (c .1) (d .1) m e
 
+  -- nor back
   pub chain-no-back : (xs : List ℕ) (x s : ℕ) → C 0 x xs → Mem s xs → previous s ≡ s + 1 → ⊥
   chain-no-back xs x s c m e =
       ⊎-elim

@@ -143,9 +143,11 @@ abbrev pub rankIn : ℕ → (ℕ → ℕ) → ℕ → ℕ
 rankIn used next s = length (walk next used (next s))
 
 module _ {IsList Single : ℕ → Type 0} {used : ℕ} {previous next head home : ℕ → ℕ} (none : ℕ) (free : IsList none → ⊥) (l : Lists IsList Single used previous next head home) where
+  -- the homes
   abbrev H : ℕ → ℕ
   H = homeIn none used home
 
+  -- the ranks
   abbrev K : ℕ → ℕ
   K = rankIn used next
 

@@ -47,9 +47,11 @@ listed-as {IsList} {Single} {used} {used′} {previous} {next} {head} {previous�
 
 module _ {IsList Single : ℕ → Type 0} {used : ℕ} {previous next head previous′ next′ head′ home rank : ℕ → ℕ} {h a : ℕ} (l : Listed IsList Single used previous next head home rank) where
   module _ (p : Pushed previous next head previous′ next′ head′ h a) (u : a < used) (out : IsList (home a) → ⊥) (cell : IsList h) (one : Single h → head h ≡ 0) where
+    -- the homes after the push
     abbrev Home′ : ℕ → ℕ
     Home′ = changed home a h
 
+    -- the ranks after the push: a stands above the old front
     abbrev Rank′ : ℕ → ℕ
     Rank′ = changed rank a (rank (head h - 1) + 1)
 
@@ -170,6 +172,7 @@ module _ {IsList Single : ℕ → Type 0} {used : ℕ} {previous next head previ
         alone s i o (no n) = p .nexts s n ∙ l .alone s (was s n i) (subst Single (home-o s n) o)
 
   module _ (r : Removed previous next head previous′ next′ head′ h a) (mine : home a ≡ h) (cell : IsList h) (none : ℕ) (free : IsList none → ⊥) where
+    -- the homes after the remove
     abbrev Left : ℕ → ℕ
     Left = changed home a none
 
@@ -189,10 +192,11 @@ module _ {IsList Single : ℕ → Type 0} {used : ℕ} {previous next head previ
     held : (x : ℕ) → IsList (Left x) → IsList (home x)
     held x i = rw (left-o x (still x i)) at i
 
-    -- the element after a, or before it, is another
+    -- the element after a is another
     next-other : (y : ℕ) → next a ≡ y + 1 → y ≡ a → ⊥
     next-other y e q = omega (arith, l .after a y listed-a e .lower, ap rank q)
 
+    -- and so is the element before it
     previous-other : (y : ℕ) → previous a ≡ y + 1 → y ≡ a → ⊥
     previous-other y e q =
         let b : Before next home a y = l .before a y listed-a e in

@@ -29,6 +29,7 @@ fields-apart s y hf hd n e = n (span-same y s hd hf e .1)
 back-next : (s y : ℕ) → spanCell y previousField ≡ spanCell s nextField → ⊥
 back-next s y = fields-apart s y (field-in (omega arith)) (field-in (omega arith)) (λ e. omega arith)
 
+-- and the other way round
 next-back : (s y : ℕ) → spanCell y nextField ≡ spanCell s previousField → ⊥
 next-back s y = fields-apart s y (field-in (omega arith)) (field-in (omega arith)) (λ e. omega arith)
 
@@ -36,6 +37,7 @@ next-back s y = fields-apart s y (field-in (omega arith)) (field-in (omega arith
 back-one : (s y : ℕ) → spanCell y previousField ≡ spanCell s previousField → y ≡ s
 back-one s y e = span-same y s (field-in (omega arith)) (field-in (omega arith)) e .0
 
+-- and so is the other
 next-one : (s y : ℕ) → spanCell y nextField ≡ spanCell s nextField → y ≡ s
 next-one s y e = span-same y s (field-in (omega arith)) (field-in (omega arith)) e .0
 
@@ -54,6 +56,7 @@ linked-same f l x v y e h =
     let q : x - 1 ≡ y = omega arith in
     simp (ne-eqb x 0 n, q) (getD-set-same l (spanCell y f) v 0 h)
 
+-- no cell is added
 linked-length : (f : ℕ) (l : List ℕ) (x v : ℕ) → length (setLinked l x f v) ≡ length l
 linked-length f l x v = go (eqb x 0)
   where
@@ -68,26 +71,32 @@ links-other :
 links-other l s p n i hp hn =
     getD-set-other (set l (spanCell s previousField) p) (spanCell s nextField) i n 0 hn ∙ getD-set-other l (spanCell s previousField) i p 0 hp
 
+-- the back link of s
 links-back : (l : List ℕ) (s p n : ℕ) → spanCell s previousField < length l → getD (setLinks l s p n) (spanCell s previousField) 0 ≡ p
 links-back l s p n h =
     getD-set-other (set l (spanCell s previousField) p) (spanCell s nextField) (spanCell s previousField) n 0 (back-next s s)
     ∙ getD-set-same l (spanCell s previousField) p 0 h
 
+-- its next link
 links-next : (l : List ℕ) (s p n : ℕ) → spanCell s nextField < length l → getD (setLinks l s p n) (spanCell s nextField) 0 ≡ n
 links-next l s p n h = getD-set-same (set l (spanCell s previousField) p) (spanCell s nextField) n 0 (simp length-set h)
 
+-- no cell is added to a table
 links-length : (l : List ℕ) (s p n : ℕ) → length (setLinks l s p n) ≡ length l
 links-length l s p n = simp length-set
 
 -- ---- push
 module _ (t : Tables) (k : ClassHeap) (f s : ℕ) where
+  -- the table before the old front is linked back
   abbrev P : List ℕ
   P = setLinks (t .spans) s 0 (headAt t k f)
 
+  -- a push adds no cell to the records
   pub push-spans-length : length (push t k f s .spans) ≡ length (t .spans)
   unfolding push
   push-spans-length = linked-length previousField P (headAt t k f) (s + 1) ∙ links-length (t .spans) s 0 (headAt t k f)
 
+  -- nor to the heads
   pub push-heads-length : length (push t k f s .heads) ≡ length (t .heads)
   unfolding push
   push-heads-length = length-set (t .heads) (headCell (k .row) f) (s + 1)
@@ -105,6 +114,7 @@ module _ (t : Tables) (k : ClassHeap) (f s : ℕ) where
   push-head c n = getD-set-other (t .heads) (headCell (k .row) f) c (s + 1) 0 n
 
   module _ {n : ℕ} (r : Links n (t .spans) (t .heads) (k .row)) (hf : f ≤ reserve) (hs : s < n) (new : headAt t k f ≡ s + 1 → ⊥) where
+    -- where s was not the front, every link and head after the push
     pub push-pushed : Pushed (previousAt t) (nextAt t) (headsAt t) (previousAt (push t k f s)) (nextAt (push t k f s)) (headsAt (push t k f s)) (headCell (k .row) f) s
     unfolding push
     push-pushed =
@@ -133,22 +143,28 @@ module _ (t : Tables) (k : ClassHeap) (f s : ℕ) where
 
 -- ---- remove
 module _ (t : Tables) (k : ClassHeap) (f s : ℕ) where
+  -- the table with the span before s linked on
   abbrev R₁ : List ℕ
   R₁ = setLinked (t .spans) (previousAt t s) nextField (nextAt t s)
 
+  -- and with the span after s linked back
   abbrev R₂ : List ℕ
   R₂ = setLinked R₁ (nextAt t s) previousField (previousAt t s)
 
+  -- the first has the same length
   R₁-length : length R₁ ≡ length (t .spans)
   R₁-length = linked-length nextField (t .spans) (previousAt t s) (nextAt t s)
 
+  -- and so has the second
   R₂-length : length R₂ ≡ length (t .spans)
   R₂-length = linked-length previousField R₁ (nextAt t s) (previousAt t s) ∙ R₁-length
 
+  -- a remove adds no cell to the records
   pub remove-spans-length : length (remove t k f s .spans) ≡ length (t .spans)
   unfolding remove
   remove-spans-length = links-length R₂ s 0 0 ∙ R₂-length
 
+  -- nor to the heads
   pub remove-heads-length : length (remove t k f s .heads) ≡ length (t .heads)
   unfolding remove
   remove-heads-length = go (eqb (previousAt t s) 0)
@@ -175,6 +191,7 @@ module _ (t : Tables) (k : ClassHeap) (f s : ℕ) where
       go false = refl
 
   module _ {n : ℕ} (r : Links n (t .spans) (t .heads) (k .row)) (hf : f ≤ reserve) (hs : s < n) (no-next : nextAt t s ≡ s + 1 → ⊥) (no-back : previousAt t s ≡ s + 1 → ⊥) where
+    -- where s does not link to itself, every link and head after the remove
     pub remove-removed : Removed (previousAt t) (nextAt t) (headsAt t) (previousAt (remove t k f s)) (nextAt (remove t k f s)) (headsAt (remove t k f s)) (headCell (k .row) f) s
     unfolding remove
     remove-removed =

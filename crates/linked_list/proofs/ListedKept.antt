@@ -43,6 +43,7 @@ pub spelled-out :
     ListsIn IsRow t home
 spelled-out t l all = lists-of l all
 
+-- and the second gives the first
 pub by-home :
     {IsRow : ℕ → Type 0} (t : Tables) {home : ℕ → ℕ} → ListsIn IsRow t home →
     ListedIn IsRow t (homeIn noList (t .used) home) (rankIn (t .used) (nextAt t))

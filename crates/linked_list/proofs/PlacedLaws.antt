@@ -35,6 +35,7 @@ record Only (n : ℕ → ℕ) (w : ℕ) : Type 0 where
   there : 0 < n w
   none : (f : ℕ) → f ≤ reserve → 0 < n f → w ≡ f
 
+-- a number that stands once stands in the first list where it stands, and in no other
 only : (n : ℕ → ℕ) → n partialList + n fullList + n emptyList + n reserve ≡ 1 → Only n (whichOf n)
 only n e = go (ℕ-discrete (n 0) 0) (ℕ-discrete (n 1) 0) (ℕ-discrete (n 2) 0)
   where
@@ -95,9 +96,11 @@ homeAt t row s = headCell (row s) (kindAt t row s)
 
 -- a used span's home is a list of its row, and it stands in that one alone
 module _ {IsRow : ℕ → Type 0} (t : Tables) {row : ℕ → ℕ} (p : Placed IsRow t row) where
+  -- which list that is
   stands : (s : ℕ) → s < t .used → Only (λ f. times s (rowList t (row s) f)) (kindAt t row s)
   stands s h = only (λ f. times s (rowList t (row s) f)) (p .listed s h)
 
+  -- it is one of the four
   pub kind-low : (s : ℕ) → s < t .used → kindAt t row s ≤ reserve
   kind-low s h = stands s h .low
 
@@ -128,27 +131,28 @@ module _ {IsRow : ℕ → Type 0} (t : Tables) {row : ℕ → ℕ} (p : Placed I
 -- ---- and back
 module _ {IsRow : ℕ → Type 0} (t : Tables) {home row : ℕ → ℕ} (l : ListsIn IsRow t home) (within : (s : ℕ) → s < t .used → IsRow (row s)) (kind : ℕ → ℕ) (low : (s : ℕ) → s < t .used → kind s ≤ reserve) (mine : (s : ℕ) → s < t .used → home s ≡ headCell (row s) (kind s)) where
   -- a span of list f of row r is of that row, and f is its kind
-  own-kind : (r f s : ℕ) → IsRow r → f ≤ reserve → Mem s (rowList t r f) → (s < t .used) × (row s ≡ r) × (kind s ≡ f)
+  pub own-kind : (r f s : ℕ) → IsRow r → f ≤ reserve → Mem s (rowList t r f) → (s < t .used) × (row s ≡ r) × (kind s ≡ f)
   own-kind r f s i h m =
       let o = l .own (headCell r f) s (list-name r i h) m in
       let q = head-same (row s) r (list-in (omega (arith, low s (o .0)))) (list-in (omega arith)) (sym (mine s (o .0)) ∙ o .1) in
       (o .0, q .0, q .1)
 
   -- each used span stands once in the lists of its row
-  once : (s : ℕ) → s < t .used → placesOf t (row s) s ≡ 1
-  once s h =
+  pub stands-once : (s : ℕ) → s < t .used → placesOf t (row s) s ≡ 1
+  stands-once s h =
       only-sum (λ f. times s (rowList t (row s) f)) (kind s) (low s h)
       (times-once s (rowList t (row s) (kind s)) (chain-nodup (previousAt t) (nextAt t) (rowList t (row s) (kind s)) (headsAt t (headCell (row s) (kind s))) (l .each (headCell (row s) (kind s)) (list-name (row s) (within s h) (low s h))))
       (subst (λ (x : ℕ). Mem s (walk (nextAt t) (t .used) (headsAt t x))) (mine s h) (l .all s h .1)))
       (λ f hf n. times-none s (rowList t (row s) f) (λ m. n (sym (own-kind (row s) f s (within s h) hf m .2))))
 
+  -- the lists as 01 counts them
   pub lists-placed : Placed IsRow t row
   lists-placed =
       record {
         linked = λ r f i h. l .each (headCell r f) (list-name r i h);
         own = λ r f s i h m. let o = own-kind r f s i h m in (o .0, o .1);
         within = within;
-        listed = once;
+        listed = stands-once;
         alone =
             λ r s i m.
             let o = own-kind r reserve s i (omega arith) m in

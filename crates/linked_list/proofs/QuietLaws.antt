@@ -40,15 +40,19 @@ quiet-on a b =
 
 -- what a quiet step keeps, by name
 module _ {t t′ : Tables} (q : Quiet t t′) where
+  -- the class of every span
   pub quiet-class : (s : ℕ) → classAt t′ s ≡ classAt t s
   quiet-class s = q .fields s 0 (field-in (omega arith)) (λ e. omega arith) (λ e. omega arith)
 
+  -- its owner
   pub quiet-owner : (s : ℕ) → ownerAt t′ s ≡ ownerAt t s
   quiet-owner s = q .fields s 1 (field-in (omega arith)) (λ e. omega arith) (λ e. omega arith)
 
+  -- its count of occupied slots
   pub quiet-occupied : (s : ℕ) → occupiedAt t′ s ≡ occupiedAt t s
   quiet-occupied s = q .fields s 2 (field-in (omega arith)) (λ e. omega arith) (λ e. omega arith)
 
+  -- the count of every magazine
   pub quiet-count : (k : ClassHeap) → countAt t′ k ≡ countAt t k
   quiet-count k = q .counts (k .row) 4 (list-in (omega arith)) (omega arith)
 
@@ -57,6 +61,7 @@ module _ (t : Tables) (k : ClassHeap) (f : ℕ) (hf : f ≤ reserve) where
   no-count : (r g : ℕ) → g < headCells → reserve < g → headCell r g ≡ headCell (k .row) f → ⊥
   no-count r g hg low e = let z : g ≡ f = head-same r (k .row) hg (list-in (omega arith)) e .1 in omega arith
 
+  -- a push
   pub push-quiet : (s : ℕ) → Quiet t (push t k f s)
   push-quiet s =
       record {
@@ -69,6 +74,7 @@ module _ (t : Tables) (k : ClassHeap) (f : ℕ) (hf : f ≤ reserve) where
         counts = λ r g h l. push-head t k f s (headCell r g) (no-count r g h l);
       }
 
+  -- a remove
   pub remove-quiet : (s : ℕ) → Quiet t (remove t k f s)
   remove-quiet s =
       record {
@@ -81,10 +87,12 @@ module _ (t : Tables) (k : ClassHeap) (f : ℕ) (hf : f ≤ reserve) where
         counts = λ r g h l. remove-head t k f s (headCell r g) (no-count r g h l);
       }
 
+  -- a pop
   pub pop-quiet : Quiet t (pop t k f)
   unfolding pop
   pop-quiet = remove-quiet (headAt t k f - 1)
 
+  -- a store to a list's head
   pub head-quiet : (v : ℕ) → Quiet t (setHead t k f v)
   head-quiet v =
       record {
