@@ -13,6 +13,8 @@ pub mod PasteLaws
 pub mod Pigeonhole
 pub mod Powers
 pub mod Rising
+pub mod SomeLaws
 pub mod SumLaws
+pub mod SumSteps
 pub mod TableLaws
 pub mod WordLaws
