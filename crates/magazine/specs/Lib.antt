@@ -1,1 +1,2 @@
 pub mod Magazine
+pub mod Room
