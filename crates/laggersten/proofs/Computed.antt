@@ -9,12 +9,13 @@ use Rattle.size_classes.specs.Slots.{fewestSlots, slotsPerSpan, startsSlot}
 use Rattle.magazine_layout.specs.Layout.{magazineBytes, leastCapacity, mostCapacity, capacityFor, lowWaterFor, magazineOffset, entriesPerHeap}
 use Rattle.tables.specs.Shape.{mostHeaps, mostSpans, rowOf, baseOf, classHeap}
 use Rattle.tables.specs.Cells.{rightShape, rightLengths, asStated, freshTables}
+use Rattle.tables.specs.Fresh.{fresh}
 use Rattle.span.specs.State.{stateOf}
 use Rattle.sound.specs.Decided.{spanFilled, spanSound, belongs, listSound, entrySound, magazineSound, classSound, sound, isSound}
 use Rattle.class_heap.proofs.Computed.{stepwise}
 use Rattle.heap.specs.Heap.{granted, draw, allocSmall, deallocLocal}
 use Rattle.primary.specs.Primary.{deallocSmall}
-use Rattle.laggersten.specs.Calls.{fresh, guarded, wordsNeeded, allocateSound, allocate, namesSlot, freed, freeSound, free}
+use Rattle.laggersten.specs.Calls.{guarded, wordsNeeded, allocateSound, allocate, namesSlot, freed, freeSound, free}
 use Rattle.laggersten.specs.Run.{runBy}
 use Rattle.laggersten.specs.Batch.{wordStep, wordsFrom, littleEndian, recordBytes, recordCall, answerCells, batchFrom, wholeRecords, batch}
 use Rattle.laggersten.specs.Summary.{overSpans, pendingSlots, classRecord, summaryCells, classRecords, summary}

@@ -6,9 +6,10 @@ use Prim.Native.Nat.{ℕ, _+_, _^_}
 use lib.ListN.{set, replicate}
 use Rattle.tables.specs.Shape.{Shape, baseShape}
 use Rattle.tables.specs.Cells.{Tables, tables}
+use Rattle.tables.specs.Fresh.{fresh}
 use Rattle.heap.specs.Outcome.{Outcome, outcome, refused}
 use Rattle.tables.proofs.Tiny.{tiny, blank}
-use Rattle.laggersten.specs.Calls.{fresh, allocate, allocateSound, free, freeSound}
+use Rattle.laggersten.specs.Calls.{allocate, allocateSound, free, freeSound}
 use Rattle.laggersten.specs.Batch.{batch}
 use Rattle.laggersten.specs.Summary.{summary}
 use Rattle.laggersten.proofs.Computed.{computed}

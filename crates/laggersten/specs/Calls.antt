@@ -8,21 +8,12 @@ use Rattle.size_classes.specs.SlotSizes.{slotSize}
 use Rattle.size_classes.specs.Class.{inRange, smallestClass}
 use Rattle.size_classes.specs.Slots.{startsSlot}
 use Rattle.tables.specs.Shape.{Shape, classHeap}
-use Rattle.tables.specs.Cells.{Tables, asStated, freshTables, classAt, ownerAt}
+use Rattle.tables.specs.Cells.{Tables, asStated, classAt, ownerAt}
 use Rattle.span.specs.State.{isOut}
 use Rattle.sound.specs.Decided.{isSound}
 use Rattle.heap.specs.Outcome.{Outcome, outcome, refused}
 use Rattle.heap.specs.Heap.{allocSmall}
 use Rattle.primary.specs.Primary.{deallocSmall}
-
--- a call that answers a number alone
-pub record Numbered : Type 0 where
-  pub number : ℕ
-  pub table : Tables
-
--- "The fresh-table maker refuses with 1 only"
-unfoldable pub fresh : Shape → Tables → Numbered
-fresh g t = cond (asStated g t) (record { number = 0; table = freshTables t }) (record { number = 1; table = t })
 
 -- 1, "first", then 2, "the table is unsound", then what a sound table answers
 unfoldable pub guarded : Shape → Tables → Outcome → Outcome

@@ -22,6 +22,13 @@ pub and-both : (b c : Bool) → b && c ≡ true → (b ≡ true) × (c ≡ true)
 and-both true c t = (refl, t)
 and-both false c t = absurd (true≢false (sym t))
 
+pub and-four : (a b c d : Bool) → a && b && c && d ≡ true → (a ≡ true) × (b ≡ true) × (c ≡ true) × (d ≡ true)
+and-four a b c d t =
+    let x = and-both (a && b && c) d t in
+    let y = and-both (a && b) c (x .0) in
+    let z = and-both a b (y .0) in
+    (z .0, z .1, y .1, x .1)
+
 module _ (f : ℕ → Bool) where
   -- One number more.
   pub some-next : (n : ℕ) → some (n + 1) f ≡ some n f || f n

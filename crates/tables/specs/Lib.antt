@@ -1,2 +1,4 @@
 pub mod Shape
 pub mod Cells
+pub mod Fresh
+pub mod Stated

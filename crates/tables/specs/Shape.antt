@@ -14,6 +14,9 @@ pub record Shape : Type 0 where
   pub heaps : ℕ
   pub spans : ℕ
 
+abbrev pub shape : List ℕ → ℕ → ℕ → ℕ → Shape
+shape sizes most heaps spans = record { sizes = sizes; most = most; heaps = heaps; spans = spans }
+
 -- "Heaps: 1 to 16. Spans: 1 to 1024."
 unfoldable pub mostHeaps : ℕ
 mostHeaps = 16
@@ -23,7 +26,7 @@ mostSpans = 1024
 
 -- a shape over 01's list and limit
 abbrev pub baseShape : ℕ → ℕ → Shape
-baseShape heaps spans = record { sizes = slotSizes; most = mostSpans; heaps = heaps; spans = spans }
+baseShape heaps spans = shape slotSizes mostSpans heaps spans
 
 abbrev pub classes : Shape → ℕ
 classes g = length (g .sizes)

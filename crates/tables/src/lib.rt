@@ -1,7 +1,9 @@
-// The lent tables: cells by their names, the numbers of one class of one heap, and the fresh-table maker.
+// The lent tables: cells by their names, and the numbers of one class of one heap.
 ghost use mathlib.Core.Path.{_≡_};
-ghost use Prim.Native.Nat.{_+_, _^_, _<_};
+ghost use Prim.Native.Nat.{ℕ, _+_, _^_, _<_};
 ghost use lib.ListN.{length, getD, set};
+ghost use Rattle.size_classes.specs.SlotSizes.{Admissible};
+ghost use Rattle.tables.specs.Shape.{shape, mostHeaps, rowOf, baseOf, classHeap};
 ghost use Rattle.tables.specs.Cells.{bitmapCell, spanCell, headCell, entryOf, entrySpan, entrySlot};
 
 // One class of one heap: its numbers, the row of its list heads and the base of its magazine.
@@ -16,11 +18,12 @@ pub struct ClassHeap {
     pub base: u64,
 }
 
-const BITMAP_CELLS: u64 = 130;
+// How many cells a span has among the bitmap words and among the records, and a class of a heap among the heads.
+pub const BITMAP_CELLS: u64 = 130;
 
-const RECORD_CELLS: u64 = 5;
+pub const RECORD_CELLS: u64 = 5;
 
-const HEAD_CELLS: u64 = 5;
+pub const HEAD_CELLS: u64 = 5;
 
 const MOST_SLOTS: u64 = 4096;
 
@@ -132,4 +135,43 @@ pub fn entry_slot(e: u64) -> u64
     ensures { λ r. ⌜ r ≡ entrySlot e ⌝ }
 {
     e % MOST_SLOTS
+}
+
+// The row of heads of a class of a heap.
+fn row_of(sizes: &[u64], heap: u64, class: u64) -> u64
+    requires { ⌜ Admissible (now sizes) ⌝ }
+    requires { ⌜ (heap < mostHeaps) × (class < length (now sizes)) ⌝ }
+    ensures { λ r. ⌜ ((most heaps spans : ℕ) → r ≡ rowOf (shape (now (sizes .entry)) most heaps spans) heap class) ⌝ }
+{
+    heap * sizes.len() as u64 + class
+}
+
+// Where the magazine of a class of a heap begins among all entries.
+fn base_of(sizes: &[u64], heap: u64, class: u64) -> u64
+    requires { ⌜ Admissible (now sizes) ⌝ }
+    requires { ⌜ (heap < mostHeaps) × (class < length (now sizes)) ⌝ }
+    ensures { λ r. ⌜ ((most heaps spans : ℕ) → r ≡ baseOf (shape (now (sizes .entry)) most heaps spans) heap class) ⌝ }
+{
+    heap * magazine_layout::entries_per_heap(sizes) + magazine_layout::magazine_offset(sizes, class)
+}
+
+// One class of one heap, by the lent slot sizes.
+pub fn class_heap(sizes: &[u64], heap: u64, class: u64) -> ClassHeap
+    requires { ⌜ Admissible (now sizes) ⌝ }
+    requires { ⌜ (heap < mostHeaps) × (class < length (now sizes)) ⌝ }
+    ensures { λ r. ⌜ ((most heaps spans : ℕ) → r ≡ classHeap (shape (now (sizes .entry)) most heaps spans) heap class) ⌝ }
+{
+    let at = class as usize;
+    let slot = sizes[at];
+    let capacity = magazine_layout::capacity_for(slot);
+    ClassHeap {
+        class: class,
+        owner: heap,
+        slot: slot,
+        slots: size_classes::slots_per_span(slot),
+        capacity: capacity,
+        low: magazine_layout::low_water_for(capacity),
+        row: row_of(sizes, heap, class),
+        base: base_of(sizes, heap, class),
+    }
 }
