@@ -55,7 +55,7 @@ module _ (g : Shape) (t : Tables) (o : Sound g t) where
             class-own (o .classHeaps (n .owner) (n .heap) (n .class) (n .sized)) f h s
             (subst (λ (x : ℕ). Mem s (rowList t x f)) (n .place) m) in
             (b .used, ap (λ (x : ℕ). rowOf g x (classAt t s)) (b .owner) ∙ ap (rowOf g (n .owner)) (b .class) ∙ sym (n .place));
-        within = λ s h. row-name g (o .spans s h .owner) (o .spans s h .class);
+        within = λ s h. row-name g (o .spans s h .cells .owner) (o .spans s h .cells .class);
         listed = λ s h. o .spans s h .listed;
         alone =
             λ r s n m.
