@@ -19,7 +19,11 @@ abbrev pub Fits : Tables → ClassHeap → ℕ → Type 0
 Fits t k n = countAt t k + n ≤ k .capacity
 
 -- Each is counted.
-pub pushes-count : (es : List ℕ) (t : Tables) (k : ClassHeap) → Room (t .entries) (t .heads) k → Fits t k (length es) → countAt (pushEntries es t k) k ≡ countAt t k + length es
+pub pushes-count :
+    (es : List ℕ) (t : Tables) (k : ClassHeap) →
+    Room (t .entries) (t .heads) k →
+    Fits t k (length es) →
+    countAt (pushEntries es t k) k ≡ countAt t k + length es
 unfolding pushEntries
 pushes-count [] t k m h = omega arith
 pushes-count (e ∷ es) t k m h =

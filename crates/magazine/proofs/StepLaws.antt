@@ -12,7 +12,11 @@ use Rattle.magazine.specs.Room.{countIn, Room}
 
 module _ (b p e e₁ h h₁ : List ℕ) (u : ℕ) (k : ClassHeap) (c : ℕ) (ec : c ≡ countIn h k) where
   -- A store above the count and a count one higher are a push.
-  pub push-made : (x : ℕ) → e₁ ≡ set e (k .base + c) x → h₁ ≡ set h (headCell (k .row) counter) (c + 1) → tables b p e₁ h₁ u ≡ pushEntry (tables b p e h u) k x
+  pub push-made :
+      (x : ℕ) →
+      e₁ ≡ set e (k .base + c) x →
+      h₁ ≡ set h (headCell (k .row) counter) (c + 1) →
+      tables b p e₁ h₁ u ≡ pushEntry (tables b p e h u) k x
   unfolding pushEntry
   push-made x q r = rw (q, r, ec)
 

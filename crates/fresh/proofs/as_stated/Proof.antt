@@ -16,7 +16,8 @@ right-lengths-requires : tie.Need-right-lengths-requires
 right-lengths-requires c κs =
     let start = c .before .before .before .before .before .before .before in
     let a = start .args in
-    let s = shape-passed (shape (a .sizes .now) (a .most) (a .heaps) (a .spans)) (sym (c .before .right-shape .ensures _) ∙ not-false _ (c .if1 .left)) in
+    let passed = sym (c .before .right-shape .ensures _) ∙ not-false _ (c .if1 .left) in
+    let s = shape-passed (shape (a .sizes .now) (a .most) (a .heaps) (a .spans)) passed in
     (start .pre .0, (s .fewHeaps, omega (arith, s .fewSpans, start .pre .1)))
 
 returns-2 : tie.Need-returns-2

@@ -24,7 +24,13 @@ record Scanned (entries : List ℕ) (base e c i : ℕ) : Type 0 where
   others : some i (λ j. eqb (getD entries (base + j) 0) e) ≡ false
 
 -- One entry more is another.
-more : (entries : List ℕ) (base e c i x : ℕ) → i < c → x ≡ getD entries (base + i) 0 → (x ≡ e → ⊥) → Scanned entries base e c i → Scanned entries base e c (i + 1)
+more :
+    (entries : List ℕ) (base e c i x : ℕ) →
+    i < c →
+    x ≡ getD entries (base + i) 0 →
+    (x ≡ e → ⊥) →
+    Scanned entries base e c i →
+    Scanned entries base e c (i + 1)
 more entries base e c i x h q n s =
     let f : ℕ → Bool = λ j. eqb (getD entries (base + j) 0) e in
     record {

@@ -5,7 +5,9 @@ use Rattle.magazine.proofs.push.Statement.{statement}
 use Rattle.magazine.proofs.push.Tie as tie
 
 returns : tie.Need-returns
-returns c b p u = push-made b p _ _ _ _ u _ _ (c .before .before .before .before .before .before .before .before .count .ensures) _ (c .before .before .before .before .before .before .put-entry .ensures) (c .before .before .put-head .ensures)
+returns c b p u =
+    let stored = c .before .before .before .before .before .before in
+    push-made b p _ _ _ _ u _ _ (stored .before .before .count .ensures) _ (stored .put-entry .ensures) (c .before .before .put-head .ensures)
 
 pub push-spec : {M : Type 1} → statement M
 push-spec =

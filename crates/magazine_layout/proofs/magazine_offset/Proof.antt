@@ -18,13 +18,25 @@ record Summed (sizes : List ℕ) (c offset j : ℕ) : Type 0 where
   is : offset ≡ magazineOffset sizes j
 
 -- One class more.
-more : (sizes : List ℕ) (c offset j r : ℕ) → j < c → r ≡ capacityFor (slotSize sizes j) → Summed sizes c offset j → Summed sizes c (offset + r) (j + 1)
+more :
+    (sizes : List ℕ) (c offset j r : ℕ) →
+    j < c →
+    r ≡ capacityFor (slotSize sizes j) →
+    Summed sizes c offset j →
+    Summed sizes c (offset + r) (j + 1)
 more sizes c offset j r h e s = record { within = omega arith; is = omega (arith, e, s .is, offset-next sizes j) }
 
 -- The sum of all classes of an admissible list is small.
-small : (sizes : List ℕ) (c offset j r : ℕ) → Admissible sizes → c ≤ length sizes → r ≡ capacityFor (slotSize sizes j) → Summed sizes c offset j → offset + r ≤ 4096
+small :
+    (sizes : List ℕ) (c offset j r : ℕ) →
+    Admissible sizes →
+    c ≤ length sizes →
+    r ≡ capacityFor (slotSize sizes j) →
+    Summed sizes c offset j →
+    offset + r ≤ 4096
 unfolding mostCapacity mostClasses
-small sizes c offset j r ok h e s = omega (arith, e, s .is, s .within, capacity-most (slotSize sizes j), offset-small sizes ok j (omega (arith, s .within)))
+small sizes c offset j r ok h e s =
+    omega (arith, e, s .is, s .within, capacity-most (slotSize sizes j), offset-small sizes ok j (omega (arith, s .within)))
 
 abbrev Inv-loop : tie.InvT-loop
 Inv-loop sizes c classes offset₀ j₀ offset j = Summed sizes c offset j
