@@ -74,7 +74,7 @@ pub extern "C" fn laggersten_leaf_claim(
     ensures answer { λ r. ⌜ r ≡ claimNumbers (claimOf (occupancyIn (now (bits .entry)) (now (spans .entry)) s) max random .answer) ⌝ }
     ensures cells { λ _. ⌜ ((e h : List ℕ) (u : ℕ) → table (now (bits .exit)) (now (spans .exit)) e h u ≡ stored (table (now (bits .entry)) (now (spans .entry)) e h u) s (claimOf (occupancyIn (now (bits .entry)) (now (spans .entry)) s) max random .occupancy)) ⌝ }
 {
-    let claimed = span::claim(bits, spans, s, max, random);
+    let claimed = span_steps::claim(bits, spans, s, max, random);
     match claimed {
         Claimed::Nothing => Found { word: 64, mask: 0 },
         Claimed::Taken { word, mask } => Found { word, mask },
@@ -88,7 +88,7 @@ pub extern "C" fn laggersten_leaf_release(bits: &mut [u64], spans: &mut [u64], s
     requires { ⌜ (q < mostSlots) × (0 < getD (now spans) (spanCell s occupiedField) 0) ⌝ }
     ensures { λ _. ⌜ ((e h : List ℕ) (u : ℕ) → table (now (bits .exit)) (now (spans .exit)) e h u ≡ deallocSlot (table (now (bits .entry)) (now (spans .entry)) e h u) s q) ⌝ }
 {
-    span::dealloc_slot(bits, spans, s, q);
+    span_steps::dealloc_slot(bits, spans, s, q);
 }
 
 // The pending frees of span s leave its occupancy.
@@ -98,5 +98,5 @@ pub extern "C" fn laggersten_leaf_fold(bits: &mut [u64], spans: &mut [u64], s: u
     requires { ⌜ ((slots : ℕ) × Foldable slots (now bits) (now spans) s) ⌝ }
     ensures { λ _. ⌜ ((e h : List ℕ) (u : ℕ) → table (now (bits .exit)) (now (spans .exit)) e h u ≡ reclaimPending (table (now (bits .entry)) (now (spans .entry)) e h u) s) ⌝ }
 {
-    span::reclaim_pending(bits, spans, s);
+    span_steps::reclaim_pending(bits, spans, s);
 }

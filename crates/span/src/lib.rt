@@ -1,19 +1,17 @@
 // One span in the lent cells: its occupancy loaded and stored, its pending frees, and the state of a block.
-use occupancy::Claimed;
 use occupancy::Occupancy;
 use tables::ClassHeap;
 ghost use mathlib.Core.Path.{_≡_};
 ghost use mathlib.Core.List.{List, [], _∷_, _++_};
 ghost use Prim.Native.Nat.{ℕ, _+_, _≤_, _<_};
-ghost use lib.ListN.{length, take, drop, getD, replicate};
+ghost use lib.ListN.{length, take, drop, replicate};
 ghost use lib.Seq.{paste, sets};
 ghost use Rattle.size_classes.specs.Slots.{mostSlots};
-ghost use Rattle.occupancy.specs.Occupied.{freshOf, claim as claimOf, foldIn};
-ghost use Rattle.occupancy.specs.Right.{Right};
+ghost use Rattle.occupancy.specs.Occupied.{freshOf};
 ghost use Rattle.tables.specs.Shape.{bitmapCells};
-ghost use Rattle.tables.specs.Cells.{tables as table, bitmapCell, spanCell, localSummary, classField, occupiedField};
-ghost use Rattle.span.specs.Room.{WordCells, FieldCells, SpanCells, Foldable, occupancyIn, pendingIn};
-ghost use Rattle.span.specs.Span.{loaded, stored as storedIn, isFull, isEmpty, hasPending, deallocSlot, clearPending, reclaimPending, folded, remoteFree, newSpan};
+ghost use Rattle.tables.specs.Cells.{tables as table, bitmapCell, spanCell, localSummary, classField};
+ghost use Rattle.span.specs.Room.{WordCells, FieldCells, SpanCells};
+ghost use Rattle.span.specs.Span.{loaded, stored as storedIn, isFull, isEmpty, hasPending, clearPending, remoteFree, newSpan};
 
 // "A block is free (bit clear), cached (in its owner's magazine), pending, or out (occupied, neither cached nor pending)."
 pub enum BlockState {
@@ -108,58 +106,13 @@ pub fn has_pending(bits: &[u64], s: u64) -> bool
     tables::word(bits, s, REMOTE_SUMMARY) >= 1
 }
 
-// Slot q of span s is free again.
-pub fn dealloc_slot(bits: &mut [u64], spans: &mut [u64], s: u64, q: u64)
-    requires { ⌜ SpanCells (now bits) (now spans) s ⌝ }
-    requires { ⌜ (q < mostSlots) × (0 < getD (now spans) (spanCell s occupiedField) 0) ⌝ }
-    ensures { λ _. ⌜ ((e h : List ℕ) (u : ℕ) → table (now (bits .exit)) (now (spans .exit)) e h u ≡ deallocSlot (table (now (bits .entry)) (now (spans .entry)) e h u) s q) ⌝ }
-{
-    let o = load(bits, spans, s);
-    let next = o.release_slot(q);
-    store(bits, spans, s, next);
-}
-
 // Nothing of span s is pending any more.
-fn clear_pending(bits: &mut [u64], s: u64)
+pub fn clear_pending(bits: &mut [u64], s: u64)
     requires { ⌜ WordCells (now bits) s ⌝ }
     ensures { λ _. ⌜ ((p e h : List ℕ) (u : ℕ) → table (now (bits .exit)) p e h u ≡ clearPending (table (now (bits .entry)) p e h u) s) ⌝ }
 {
     tables::put_word(bits, s, REMOTE_SUMMARY, 0);
     put_words(bits, tables::bitmap_cell(s, REMOTE_WORDS), [0u64; 64]);
-}
-
-// The occupancy of span s without its pending slots.
-fn less_pending(bits: &[u64], spans: &[u64], s: u64) -> Occupancy
-    requires { ⌜ SpanCells (now bits) (now spans) s ⌝ }
-    requires { ⌜ ((slots : ℕ) × Foldable slots (now bits) (now spans) s) ⌝ }
-    ensures { λ r. ⌜ r ≡ foldIn (occupancyIn (now (bits .entry)) (now (spans .entry)) s) (pendingIn (now (bits .entry)) s) ⌝ }
-{
-    let o = load(bits, spans, s);
-    let from = tables::bitmap_cell(s, REMOTE_WORDS) as usize;
-    let end = from + 64;
-    o.fold_in(&bits[from..end])
-}
-
-// The pending frees of span s leave its occupancy.
-pub fn reclaim_pending(bits: &mut [u64], spans: &mut [u64], s: u64)
-    requires { ⌜ SpanCells (now bits) (now spans) s ⌝ }
-    requires { ⌜ ((slots : ℕ) × Foldable slots (now bits) (now spans) s) ⌝ }
-    ensures { λ _. ⌜ ((e h : List ℕ) (u : ℕ) → table (now (bits .exit)) (now (spans .exit)) e h u ≡ reclaimPending (table (now (bits .entry)) (now (spans .entry)) e h u) s) ⌝ }
-{
-    let o = less_pending(bits, spans, s);
-    store(bits, spans, s, o);
-    clear_pending(bits, s);
-}
-
-// The same, where there are any.
-pub fn fold(bits: &mut [u64], spans: &mut [u64], s: u64)
-    requires { ⌜ SpanCells (now bits) (now spans) s ⌝ }
-    requires { ⌜ ((slots : ℕ) × Foldable slots (now bits) (now spans) s) ⌝ }
-    ensures { λ _. ⌜ ((e h : List ℕ) (u : ℕ) → table (now (bits .exit)) (now (spans .exit)) e h u ≡ folded (table (now (bits .entry)) (now (spans .entry)) e h u) s) ⌝ }
-{
-    if has_pending(bits, s) {
-        reclaim_pending(bits, spans, s);
-    }
 }
 
 // A free of slot q of span s by another heap.
@@ -172,20 +125,6 @@ pub fn remote_free(bits: &mut [u64], s: u64, q: u64)
     let summary = tables::word(bits, s, REMOTE_SUMMARY);
     tables::put_word(bits, s, REMOTE_WORDS + i, bits::set_bit(word, q % 64));
     tables::put_word(bits, s, REMOTE_SUMMARY, bits::set_bit(summary, i));
-}
-
-// A claim of at most max slots of span s.
-pub fn claim(bits: &mut [u64], spans: &mut [u64], s: u64, max: u64, random: u64) -> Claimed
-    requires { ⌜ SpanCells (now bits) (now spans) s ⌝ }
-    requires { ⌜ ((slots : ℕ) × Right slots (occupancyIn (now bits) (now spans) s)) ⌝ }
-    ensures answer { λ r. ⌜ r ≡ claimOf (occupancyIn (now (bits .entry)) (now (spans .entry)) s) max random .answer ⌝ }
-    ensures cells { λ _. ⌜ ((e h : List ℕ) (u : ℕ) → table (now (bits .exit)) (now (spans .exit)) e h u ≡ storedIn (table (now (bits .entry)) (now (spans .entry)) e h u) s (claimOf (occupancyIn (now (bits .entry)) (now (spans .entry)) s) max random .occupancy)) ⌝ }
-{
-    let o = load(bits, spans, s);
-    let c = o.claim_up_to(max, random);
-    let next = c.occupancy;
-    store(bits, spans, s, next);
-    c.answer
 }
 
 // The words of span s as of a new span of so many slots.

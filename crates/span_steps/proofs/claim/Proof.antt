@@ -1,4 +1,4 @@
--- `span::claim` meets its contract. Assumes nothing.
+-- `span_steps::claim` meets its contract. Assumes nothing.
 use borrow.Author.Needs.{needs}
 use mathlib.Core.Path.{_≡_, ap, _∙_}
 use mathlib.Core.List.{[]}
@@ -7,10 +7,10 @@ use Rattle.occupancy.specs.declared.Occupancy.{Occupancy}
 use Rattle.occupancy.specs.declared.Claim.{Claim}
 use Rattle.occupancy.specs.Occupied.{claim}
 use Rattle.tables.specs.Cells.{tables}
 use Rattle.span.specs.Room.{occupancyIn}
 use Rattle.span.specs.Span.{stored}
-use Rattle.span.proofs.claim.Statement.{statement}
-use Rattle.span.proofs.claim.Tie as tie
+use Rattle.span_steps.proofs.claim.Statement.{statement}
+use Rattle.span_steps.proofs.claim.Tie as tie
 
 claim-up-to-requires : tie.Need-claim-up-to-requires
 claim-up-to-requires c κs = (c .before .before .before .before .before .pre .1 .0, rw (c .load .ensures [] [] 0) (c .before .before .before .before .before .pre .1 .1))

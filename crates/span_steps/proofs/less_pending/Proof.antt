@@ -1,4 +1,4 @@
--- `span::less_pending` meets its contract. Assumes nothing.
+-- `span_steps::less_pending` meets its contract. Assumes nothing.
 use borrow.Author.Needs.{needs}
 use mathlib.Core.Path.{_≡_, ap, ap₂, _∙_}
 use mathlib.Core.List.{List, []}
@@ -6,9 +6,9 @@ use Prim.Native.Nat.{ℕ}
 use native.Mathlib.Omega.{arith}
 use Rattle.occupancy.specs.declared.Occupancy.{Occupancy}
 use Rattle.occupancy.specs.Occupied.{foldIn}
 use Rattle.span.proofs.CellsThere.{remote-there, part-is, part-long}
-use Rattle.span.proofs.less_pending.Statement.{statement}
-use Rattle.span.proofs.less_pending.Tie as tie
+use Rattle.span_steps.proofs.less_pending.Statement.{statement}
+use Rattle.span_steps.proofs.less_pending.Tie as tie
 
 bitmap-cell-requires : tie.Need-bitmap-cell-requires
 bitmap-cell-requires c κs = omega (arith, remote-there _ _ (c .before .before .before .pre .0 .words))

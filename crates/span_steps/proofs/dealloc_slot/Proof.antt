@@ -1,4 +1,4 @@
--- `span::dealloc_slot` meets its contract. Assumes nothing.
+-- `span_steps::dealloc_slot` meets its contract. Assumes nothing.
 use borrow.Author.Needs.{needs}
 use mathlib.Core.Path.{_≡_, ap, _∙_}
 use mathlib.Core.List.{[]}
@@ -8,9 +8,9 @@ use Rattle.size_classes.specs.Slots.{mostSlots}
 use Rattle.occupancy.specs.declared.Occupancy.{Occupancy}
 use Rattle.occupancy.specs.Occupied.{releaseSlot}
 use Rattle.tables.specs.Cells.{tables}
 use Rattle.span.specs.Span.{stored, deallocSlot}
-use Rattle.span.proofs.dealloc_slot.Statement.{statement}
-use Rattle.span.proofs.dealloc_slot.Tie as tie
+use Rattle.span_steps.proofs.dealloc_slot.Statement.{statement}
+use Rattle.span_steps.proofs.dealloc_slot.Tie as tie
 
 release-slot-requires : tie.Need-release-slot-requires
 unfolding mostSlots

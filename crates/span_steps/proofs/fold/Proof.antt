@@ -1,10 +1,10 @@
--- `span::fold` meets its contract. Assumes nothing.
+-- `span_steps::fold` meets its contract. Assumes nothing.
 use borrow.Author.Needs.{needs}
 use mathlib.Core.Path.{_≡_, sym, _∙_}
 use native.Mathlib.Omega.{arith}
 use Rattle.span.specs.Span.{folded}
-use Rattle.span.proofs.fold.Statement.{statement}
-use Rattle.span.proofs.fold.Tie as tie
+use Rattle.span_steps.proofs.fold.Statement.{statement}
+use Rattle.span_steps.proofs.fold.Tie as tie
 
 has-pending-requires : tie.Need-has-pending-requires
 has-pending-requires c κs = c .before .before .before .pre .0 .words

@@ -1,4 +1,4 @@
--- `span::reclaim_pending` meets its contract. Assumes nothing.
+-- `span_steps::reclaim_pending` meets its contract. Assumes nothing.
 use borrow.Author.Needs.{needs}
 use mathlib.Core.Path.{_≡_, ap, ap₂, _∙_}
 use mathlib.Core.List.{List}
@@ -6,9 +6,9 @@ use native.Mathlib.Omega.{arith}
 use lib.ListN.{length}
 use Rattle.occupancy.specs.declared.Occupancy.{Occupancy}
 use Rattle.tables.specs.Cells.{Tables, tables}
 use Rattle.span.specs.Span.{stored, clearPending, reclaimPending}
-use Rattle.span.proofs.reclaim_pending.Statement.{statement}
-use Rattle.span.proofs.reclaim_pending.Tie as tie
+use Rattle.span_steps.proofs.reclaim_pending.Statement.{statement}
+use Rattle.span_steps.proofs.reclaim_pending.Tie as tie
 
 clear-pending-requires : tie.Need-clear-pending-requires
 clear-pending-requires c κs =
