@@ -19,6 +19,9 @@ module _ (bits : List ℕ) (s : ℕ) (cells : WordCells bits s) where
   pub summary-there : (i : ℕ) → i ≤ remoteSummary → bitmapCell s i < length bits
   summary-there i h = word-there (summaries-in h)
 
+  pub local-word-there : (i : ℕ) → i < 64 → bitmapCell s (localWord i) < length bits
+  local-word-there i h = word-there (local-in h)
+
   pub remote-word-there : (i : ℕ) → i < 64 → bitmapCell s (remoteWord i) < length bits
   remote-word-there i h = word-there (remote-in h)
 
