@@ -1,12 +1,12 @@
 -- What the tests and stores of the fresh-table maker come to. Assumes nothing.
-use mathlib.Core.Path.{_≡_, refl, sym, _∙_}
+use mathlib.Core.Path.{_≡_, sym, _∙_}
 use mathlib.Core.Bool.{Bool, true, false}
 use mathlib.Core.List.{List}
 use Prim.Native.Nat.{ℕ}
 use lib.ListN.{length, replicate}
 use Rattle.tables.specs.Shape.{Shape}
 use Rattle.tables.specs.Cells.{Tables, tables, rightShape, rightLengths, asStated, freshTables}
-use Rattle.tables.specs.Fresh.{Numbered, numbered, fresh}
+use Rattle.tables.specs.Fresh.{numbered, fresh}
 
 module _ (g : Shape) (t : Tables) where
   -- Heaps or spans out of their limits, and the lengths where they are within.

@@ -6,7 +6,7 @@ use native.Mathlib.Omega.{arith}
 use lib.ListN.{length, length-set}
 use lib.Seq.{getD-set-other}
 use Rattle.tables.specs.declared.ClassHeap.{ClassHeap}
-use Rattle.tables.specs.Shape.{Shape, classes, headCells, classHeap}
+use Rattle.tables.specs.Shape.{Shape, classes, classHeap}
 use Rattle.tables.specs.Cells.{Tables, headCell, counter, countAt, headAt, setHead, entryAt, setEntry}
 use Rattle.tables.specs.Stated.{Stated}
 use Rattle.tables.proofs.CellLaws.{head-same, list-in, rows-same}

@@ -1,12 +1,12 @@
 -- Stores to the entries and the heads that come to a step of the magazine, and places that are within the lent entries. Assumes nothing.
-use mathlib.Core.Path.{_≡_, refl, sym, _∙_}
+use mathlib.Core.Path.{_≡_}
 use mathlib.Core.List.{List}
-use Prim.Native.Nat.{ℕ, _+_, _-_, _%_, _<_, _≤_}
+use Prim.Native.Nat.{ℕ, _+_, _-_, _%_, _<_}
 use native.Mathlib.Nat.{mod-lt}
 use native.Mathlib.Omega.{arith}
 use lib.ListN.{length, set, getD}
 use Rattle.tables.specs.declared.ClassHeap.{ClassHeap}
-use Rattle.tables.specs.Cells.{Tables, tables, headCell, counter}
+use Rattle.tables.specs.Cells.{tables, headCell, counter}
 use Rattle.magazine.specs.Magazine.{pushEntry, popEntry, drawEntry}
 use Rattle.magazine.specs.Room.{countIn, Room}
 

@@ -1,8 +1,7 @@
 -- The tests of heaps, spans and lengths say what they are for, both ways; and in a table as stated each class of each heap has its cells. Assumes nothing.
-use mathlib.Core.Path.{_≡_, refl, sym}
-use mathlib.Core.Bool.{Bool, true, false, _&&_}
+use mathlib.Core.Path.{_≡_}
+use mathlib.Core.Bool.{true}
 use Prim.Native.Nat.{ℕ, _+_, _*_, _<_, _≤_}
-use native.Mathlib.Omega.{arith}
 use lib.Dec.{leb, eqb}
 use lib.ListN.{length}
 use borrow.Author.Tests.{leb-true, eqb-true, le-leb, eq-eqb}
@@ -13,7 +12,7 @@ use Rattle.tables.specs.Shape.{Shape, mostHeaps, classes, bitmapCells, r
 use Rattle.tables.specs.Cells.{Tables, rightShape, rightLengths, asStated, headCell, counter}
 use Rattle.tables.specs.Stated.{RightShape, RightLengths, Stated}
 use Rattle.tables.proofs.CellLaws.{head-in, list-in, row-in}
-use Rattle.tables.proofs.MagazineCells.{base-in, base-within}
+use Rattle.tables.proofs.MagazineCells.{base-within}
 
 module _ (g : Shape) where
   pub shape-passed : rightShape g ≡ true → RightShape g

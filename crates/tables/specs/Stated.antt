@@ -1,6 +1,6 @@
 -- A table as stated: heaps and spans within their limits, and each lent table of its length. Assumes nothing.
 use mathlib.Core.Path.{_≡_}
-use Prim.Native.Nat.{ℕ, _*_, _≤_}
+use Prim.Native.Nat.{_*_, _≤_}
 use lib.ListN.{length}
 use Rattle.magazine_layout.specs.Layout.{entriesPerHeap}
 use Rattle.tables.specs.Shape.{Shape, mostHeaps, classes, bitmapCells, recordCells, headCells}
