@@ -1,0 +1,2 @@
+pub mod FilledFacts
+pub mod StateLaws
