@@ -1,2 +1,6 @@
 pub mod FilledFacts
 pub mod StateLaws
+pub mod SameSpans
+pub mod ListSteps
+pub mod Becomes
+pub mod OneMagazine
