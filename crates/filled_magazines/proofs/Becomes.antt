@@ -1,5 +1,5 @@
 -- What a step does to the states of blocks, said once: this block so, every other block of every used span as before. Assumes nothing.
-use mathlib.Core.Path.{_≡_, sym, subst, _∙_}
+use mathlib.Core.Path.{_≡_, _∙_}
 use Prim.Native.Nat.{ℕ, _<_}
 use Rattle.size_classes.specs.Slots.{mostSlots}
 use Rattle.tables.specs.Shape.{Shape}

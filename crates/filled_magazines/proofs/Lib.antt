@@ -4,3 +4,5 @@ pub mod SameSpans
 pub mod ListSteps
 pub mod Becomes
 pub mod OneMagazine
+pub mod MagazineSteps
+pub mod PushesSteps

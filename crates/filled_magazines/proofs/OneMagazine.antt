@@ -1,10 +1,8 @@
 -- A step of one magazine of a filled table: the table stays filled if that magazine is sound, and a block that enters the magazine becomes cached, one
 -- that leaves it becomes out, while every other block of a used span keeps its state. Assumes nothing.
-use mathlib.Core.Path.{_≡_, refl, sym, ap, ap₂, subst, _∙_}
-use mathlib.Core.Bool.{Bool, true, false}
+use mathlib.Core.Path.{_≡_, sym, ap, ap₂, subst, _∙_}
 use mathlib.Core.Logic.{_⊎_, inl, inr, ⊎-elim}
-use mathlib.Core.List.{List}
-use Prim.Native.Nat.{ℕ, _<_, _≤_}
+use Prim.Native.Nat.{ℕ, _<_}
 use native.Mathlib.Decide.{ℕ-discrete}
 use native.Mathlib.Omega.{arith}
 use lib.ListN.{length}
@@ -12,7 +10,7 @@ use Rattle.laws.proofs.FirstLaws.{tested}
 use Rattle.size_classes.specs.Slots.{mostSlots}
 use Rattle.tables.specs.declared.ClassHeap.{ClassHeap}
 use Rattle.tables.specs.Shape.{Shape, classes, classHeap}
-use Rattle.tables.specs.Cells.{Tables, classAt, ownerAt, countAt, entryAt, entryOf, entrySpan, entrySlot}
+use Rattle.tables.specs.Cells.{Tables, classAt, ownerAt, entryOf, entrySpan, entrySlot}
 use Rattle.tables.proofs.CellLaws.{entry-span, entry-slot}
 use Rattle.magazine.specs.Magazine.{isCached}
 use Rattle.magazine.specs.Held.{Among, Apart, OnlyMagazine}

@@ -1,0 +1,168 @@
+-- A push, a pop and a draw keep a table filled: the block pushed becomes cached, the one popped or drawn becomes out, and every other keeps its state.
+-- Assumes nothing.
+use mathlib.Core.Path.{_≡_, refl, sym, _∙_}
+use Prim.Native.Nat.{ℕ, _-_, _<_}
+use native.Mathlib.Omega.{arith}
+use Rattle.size_classes.specs.Slots.{mostSlots}
+use Rattle.tables.specs.declared.ClassHeap.{ClassHeap}
+use Rattle.tables.specs.Shape.{Shape, classes, classHeap}
+use Rattle.tables.specs.Cells.{Tables, countAt, entryAt, entryOf, entrySpan, entrySlot}
+use Rattle.tables.proofs.CellLaws.{entry-span, entry-slot}
+use Rattle.magazine.specs.Magazine.{pushEntry, topEntry, popEntry, drawnAt, drawEntry}
+use Rattle.magazine.specs.Held.{Among}
+use Rattle.magazine.proofs.MagazineLaws.{push-each, push-kept, push-new, push-from, push-distinct, pop-each, pop-from, pop-kept, pop-gone, pop-distinct, drawn-below, draw-each, draw-from, draw-kept, draw-gone, draw-distinct}
+use Rattle.magazine.proofs.OtherMagazines.{push-only, pop-only, draw-only, push-room, pop-room, draw-room}
+use Rattle.span.specs.declared.BlockState.the-variants.{Cached, Out}
+use Rattle.span.specs.State.{stateOf}
+use Rattle.sound.specs.Sound.{Belongs, EntrySound}
+use Rattle.sound.specs.Filled.{Filled}
+use Rattle.filled_magazines.proofs.FilledFacts.{slots-within, filled-room, filled-distinct, filled-entry}
+use Rattle.filled_magazines.proofs.StateLaws.{cached-no-out, out-says, among-is-cached, entry-is-cached}
+use Rattle.filled_magazines.proofs.SameSpans.{same-entry}
+use Rattle.filled_magazines.proofs.Becomes.{Becomes}
+use Rattle.filled_magazines.proofs.OneMagazine.{only-spans, only-filled, enters, leaves}
+
+-- ---- an entry that may be pushed
+
+-- it names a block that is out, of a used span of that class and heap
+pub record Loose (g : Shape) (t : Tables) (k : ClassHeap) (e : ℕ) : Type 0 where
+  pub belongs : Belongs t k (entrySpan e)
+  pub inRange : entrySlot e < k .slots
+  pub out : stateOf g t (entrySpan e) (entrySlot e) ≡ Out
+
+-- It is sound.
+pub loose-sound : {g : Shape} {t : Tables} {k : ClassHeap} {e : ℕ} → Loose g t k e → EntrySound t k e
+loose-sound {g} {t} {k} {e} m =
+    let r = out-says g t (entrySpan e) (entrySlot e) (m .out) in
+    record { belongs = m .belongs; inRange = m .inRange; occupied = r .occupied; notPending = r .notPending }
+
+-- It is the entry of such a block.
+pub block-loose :
+    (g : Shape) (t : Tables) (h c s : ℕ) {q : ℕ} →
+    Belongs t (classHeap g h c) s →
+    q < classHeap g h c .slots →
+    stateOf g t s q ≡ Out →
+    Loose g t (classHeap g h c) (entryOf s q)
+block-loose g t h c s {q} b l out =
+    let w : q < mostSlots = omega (arith, slots-within g h c) in
+    record {
+      belongs = rw (entry-span s w) b;
+      inRange = rw (entry-slot s w) l;
+      out = rw (entry-span s w, entry-slot s w) out;
+    }
+
+module _ {g : Shape} {t : Tables} (o : Filled g t) {h c : ℕ} (hh : h < g .heaps) (hc : c < classes g) where
+  -- It stands in no magazine yet.
+  pub loose-in-none : {e : ℕ} → Loose g t (classHeap g h c) e → Among t (classHeap g h c) e → ⊥
+  loose-in-none m a = cached-no-out (sym (among-is-cached o hh hc a) ∙ m .out)
+
+  -- ---- push
+
+  module _ {e : ℕ} (m : Loose g t (classHeap g h c) e) (free : countAt t (classHeap g h c) < classHeap g h c .capacity) where
+    pub push-loose-filled : Filled g (pushEntry t (classHeap g h c) e)
+    push-loose-filled =
+        let k = classHeap g h c in
+        let room = filled-room o hh hc in
+        let only = push-only t k e free in
+        let still = same-entry (only-spans o hh hc only) k in
+        only-filled o hh hc only
+        (record {
+          count = push-room t k room e free .held;
+          entries =
+              push-each t k room e free (EntrySound (pushEntry t k e) k) (λ i l. still (entryAt t k i) (filled-entry o hh hc i l))
+              (still e (loose-sound m));
+          distinct = push-distinct t k room e free (filled-distinct o hh hc) (loose-in-none m) .apart;
+        })
+
+    pub push-loose-becomes : Becomes g t (pushEntry t (classHeap g h c) e) (entrySpan e) (entrySlot e) Cached
+    push-loose-becomes =
+        let k = classHeap g h c in
+        let room = filled-room o hh hc in
+        enters o hh hc (push-only t k e free) push-loose-filled (push-new t k room e free) (push-kept t k room e free) (push-from t k room e free)
+
+  -- The same, of the block itself.
+  module _ {s q : ℕ} (b : Belongs t (classHeap g h c) s) (l : q < classHeap g h c .slots) (out : stateOf g t s q ≡ Out)
+      (free : countAt t (classHeap g h c) < classHeap g h c .capacity) where
+    pub push-entry-filled : Filled g (pushEntry t (classHeap g h c) (entryOf s q))
+    push-entry-filled = push-loose-filled (block-loose g t h c s b l out) free
+
+    pub push-entry-becomes : Becomes g t (pushEntry t (classHeap g h c) (entryOf s q)) s q Cached
+    push-entry-becomes =
+        let w : q < mostSlots = omega (arith, slots-within g h c) in
+        let r = push-loose-becomes (block-loose g t h c s b l out) free in
+        rw (entry-span s w, entry-slot s w) at r
+
+  -- ---- pop
+
+  module _ (some : 0 < countAt t (classHeap g h c)) where
+    -- The top entry names a cached block.
+    pub top-is-cached :
+        stateOf g t (entrySpan (topEntry t (classHeap g h c))) (entrySlot (topEntry t (classHeap g h c))) ≡ Cached
+    top-is-cached = entry-is-cached o hh hc (countAt t (classHeap g h c) - 1) (omega arith)
+
+    pub top-sound : EntrySound t (classHeap g h c) (topEntry t (classHeap g h c))
+    top-sound = filled-entry o hh hc (countAt t (classHeap g h c) - 1) (omega arith)
+
+    pub pop-entry-filled : Filled g (popEntry t (classHeap g h c))
+    pop-entry-filled =
+        let k = classHeap g h c in
+        let room = filled-room o hh hc in
+        let still = same-entry (only-spans o hh hc (pop-only t k)) k in
+        only-filled o hh hc (pop-only t k)
+        (record {
+          count = pop-room t k room some .held;
+          entries =
+              pop-each t k room some (EntrySound (popEntry t k) k) (λ i l. still (entryAt t k i) (filled-entry o hh hc i l));
+          distinct = pop-distinct t k room some (filled-distinct o hh hc) .apart;
+        })
+
+    pub pop-entry-becomes :
+        Becomes g t (popEntry t (classHeap g h c)) (entrySpan (topEntry t (classHeap g h c)))
+        (entrySlot (topEntry t (classHeap g h c))) Out
+    pop-entry-becomes =
+        let k = classHeap g h c in
+        let room = filled-room o hh hc in
+        leaves o hh hc (pop-only t k) (record { place = countAt t k - 1; below = omega arith; is = refl })
+        (pop-gone t k room some (filled-distinct o hh hc)) (pop-kept t k room some) (pop-from t k room some)
+
+    -- ---- draw
+
+    module _ (word : ℕ) where
+      -- The drawn entry names a cached block.
+      pub drawn-is-cached :
+          stateOf g t (entrySpan (entryAt t (classHeap g h c) (drawnAt t (classHeap g h c) word)))
+          (entrySlot (entryAt t (classHeap g h c) (drawnAt t (classHeap g h c) word))) ≡ Cached
+      drawn-is-cached =
+          let k = classHeap g h c in
+          entry-is-cached o hh hc (drawnAt t k word) (drawn-below t k (filled-room o hh hc) some word)
+
+      pub drawn-sound : EntrySound t (classHeap g h c) (entryAt t (classHeap g h c) (drawnAt t (classHeap g h c) word))
+      drawn-sound =
+          let k = classHeap g h c in
+          filled-entry o hh hc (drawnAt t k word) (drawn-below t k (filled-room o hh hc) some word)
+
+      pub draw-entry-filled : Filled g (drawEntry t (classHeap g h c) word)
+      draw-entry-filled =
+          let k = classHeap g h c in
+          let room = filled-room o hh hc in
+          let only = draw-only t k word room some in
+          let still = same-entry (only-spans o hh hc only) k in
+          only-filled o hh hc only
+          (record {
+            count = draw-room t k room some word .held;
+            entries =
+                draw-each t k room some word (EntrySound (drawEntry t k word) k)
+                (λ i l. still (entryAt t k i) (filled-entry o hh hc i l));
+            distinct = draw-distinct t k room some word (filled-distinct o hh hc) .apart;
+          })
+
+      pub draw-entry-becomes :
+          Becomes g t (drawEntry t (classHeap g h c) word)
+          (entrySpan (entryAt t (classHeap g h c) (drawnAt t (classHeap g h c) word)))
+          (entrySlot (entryAt t (classHeap g h c) (drawnAt t (classHeap g h c) word))) Out
+      draw-entry-becomes =
+          let k = classHeap g h c in
+          let room = filled-room o hh hc in
+          leaves o hh hc (draw-only t k word room some)
+          (record { place = drawnAt t k word; below = drawn-below t k room some word; is = refl })
+          (draw-gone t k room some word (filled-distinct o hh hc)) (draw-kept t k room some word) (draw-from t k room some word)

@@ -1,0 +1,72 @@
+-- A run of pushes of distinct entries of blocks that are out keeps a table filled: these blocks become cached, and every other keeps its state.
+-- Assumes nothing.
+use mathlib.Core.Path.{_≡_}
+use mathlib.Core.Logic.{⊎-elim}
+use mathlib.Core.List.{List}
+use Prim.Native.Nat.{ℕ, _+_, _<_, _≤_}
+use lib.ListN.{length, getD}
+use Rattle.tables.specs.declared.ClassHeap.{ClassHeap}
+use Rattle.tables.specs.Shape.{Shape, classes, classHeap}
+use Rattle.tables.specs.Cells.{Tables, countAt, entryAt, entryOf, entrySpan, entrySlot}
+use Rattle.magazine.specs.Magazine.{pushEntries}
+use Rattle.magazine.proofs.OtherMagazines.{pushes-only}
+use Rattle.magazine.proofs.PushesLaws.{pushes-count, pushes-each, pushes-kept, pushes-among, pushes-from, pushes-distinct}
+use Rattle.span.specs.declared.BlockState.the-variants.{Cached}
+use Rattle.span.specs.State.{stateOf}
+use Rattle.sound.specs.Sound.{EntrySound}
+use Rattle.sound.specs.Filled.{Filled}
+use Rattle.filled_magazines.proofs.FilledFacts.{filled-room, filled-distinct, filled-entry}
+use Rattle.filled_magazines.proofs.StateLaws.{among-is-cached}
+use Rattle.filled_magazines.proofs.SameSpans.{same-entry}
+use Rattle.filled_magazines.proofs.OneMagazine.{only-spans, only-filled, only-state}
+use Rattle.filled_magazines.proofs.MagazineSteps.{Loose, loose-sound, loose-in-none}
+
+-- entries that may be pushed one after the other: each may, no two are equal, and there is room for all
+pub record Pushable (g : Shape) (t : Tables) (k : ClassHeap) (es : List ℕ) : Type 0 where
+  pub loose : (j : ℕ) → j < length es → Loose g t k (getD es j 0)
+  pub distinct : (j : ℕ) → j < length es → (i : ℕ) → i < j → getD es i 0 ≡ getD es j 0 → ⊥
+  pub fits : countAt t k + length es ≤ k .capacity
+
+module _ {g : Shape} {t : Tables} (o : Filled g t) {h c : ℕ} (hh : h < g .heaps) (hc : c < classes g) {es : List ℕ}
+    (p : Pushable g t (classHeap g h c) es) where
+  -- Each is counted.
+  pub push-entries-count : countAt (pushEntries es t (classHeap g h c)) (classHeap g h c) ≡ countAt t (classHeap g h c) + length es
+  push-entries-count = pushes-count es t (classHeap g h c) (filled-room o hh hc) (p .fits)
+
+  pub push-entries-filled : Filled g (pushEntries es t (classHeap g h c))
+  push-entries-filled =
+      let k = classHeap g h c in
+      let room = filled-room o hh hc in
+      let only = pushes-only es t k room (p .fits) in
+      let still = same-entry (only-spans o hh hc only) k in
+      only-filled o hh hc only
+      (record {
+        count = rw push-entries-count (p .fits);
+        entries =
+            pushes-each es t k room (p .fits) (EntrySound (pushEntries es t k) k)
+            (λ i l. still (entryAt t k i) (filled-entry o hh hc i l))
+            (λ j l. still (getD es j 0) (loose-sound (p .loose j l)));
+        distinct =
+            pushes-distinct es t k room (p .fits) (filled-distinct o hh hc) (p .distinct)
+            (λ j l. loose-in-none o hh hc (p .loose j l)) .apart;
+      })
+
+  -- Their blocks become cached.
+  pub push-entries-cached :
+      (j : ℕ) →
+      j < length es →
+      stateOf g (pushEntries es t (classHeap g h c)) (entrySpan (getD es j 0)) (entrySlot (getD es j 0)) ≡ Cached
+  push-entries-cached j l =
+      among-is-cached push-entries-filled hh hc (pushes-among es t (classHeap g h c) (filled-room o hh hc) (p .fits) j l)
+
+  -- Every other block of every used span keeps its state.
+  pub push-entries-others :
+      (x y : ℕ) →
+      x < t .used →
+      ((j : ℕ) → j < length es → getD es j 0 ≡ entryOf x y → ⊥) →
+      stateOf g (pushEntries es t (classHeap g h c)) x y ≡ stateOf g t x y
+  push-entries-others x y l n =
+      let k = classHeap g h c in
+      let room = filled-room o hh hc in
+      only-state o hh hc (pushes-only es t k room (p .fits)) x y l (pushes-kept es t k room (p .fits) (entryOf x y))
+      (λ a. ⊎-elim (λ s. s) (λ w. absurd (n (w .0) (w .1) (w .2))) (pushes-from es t k room (p .fits) (entryOf x y) a))
