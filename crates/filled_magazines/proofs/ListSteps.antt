@@ -16,6 +16,7 @@ use Rattle.span.specs.State.{stateOf}
 use Rattle.sound.specs.Sound.{homeOf}
 use Rattle.sound.specs.Filled.{Filled}
 use Rattle.filled_magazines.proofs.FilledFacts.{filled-links}
+use Rattle.filled_magazines.proofs.Becomes.{Keeps}
 use Rattle.filled_magazines.proofs.SameSpans.{SameSpans, same-magazine, same-state, same-filled}
 
 -- ---- any step that changes links and fronts alone
@@ -43,6 +44,9 @@ module _ {t u : Tables} (q : Quiet t u) where
   -- Every block's state is as it was.
   pub quiet-state : (g : Shape) (s p : ℕ) → stateOf g u s p ≡ stateOf g t s p
   quiet-state g s p = same-state quiet-spans g s p (quiet-cached (homeOf g t s) (entryOf s p))
+
+  pub quiet-keeps : (g : Shape) → Keeps g t u
+  quiet-keeps g = record { states = λ x y h l. quiet-state g x y }
 
   -- A filled table stays filled, if links and fronts are in range.
   pub quiet-filled :

@@ -18,7 +18,7 @@ use Rattle.sound.specs.Sound.{Belongs, EntrySound}
 use Rattle.sound.specs.Filled.{Filled}
 use Rattle.filled_magazines.proofs.FilledFacts.{slots-within, filled-room, filled-distinct, filled-entry}
 use Rattle.filled_magazines.proofs.StateLaws.{cached-no-out, out-says, among-is-cached, entry-is-cached}
-use Rattle.filled_magazines.proofs.SameSpans.{same-entry}
+use Rattle.filled_magazines.proofs.SameSpans.{same-belongs, same-entry}
 use Rattle.filled_magazines.proofs.Becomes.{Becomes}
 use Rattle.filled_magazines.proofs.OneMagazine.{only-spans, only-filled, enters, leaves}
 
@@ -125,6 +125,16 @@ module _ {g : Shape} {t : Tables} (o : Filled g t) {h c : ℕ} (hh : h < g .heap
         leaves o hh hc (pop-only t k) (record { place = countAt t k - 1; below = omega arith; is = refl })
         (pop-gone t k room some (filled-distinct o hh hc)) (pop-kept t k room some) (pop-from t k room some)
 
+    -- The popped entry may be pushed again.
+    pub popped-loose : Loose g (popEntry t (classHeap g h c)) (classHeap g h c) (topEntry t (classHeap g h c))
+    popped-loose =
+        let k = classHeap g h c in
+        record {
+          belongs = same-belongs (only-spans o hh hc (pop-only t k)) k (entrySpan (topEntry t k)) (top-sound .belongs);
+          inRange = top-sound .inRange;
+          out = pop-entry-becomes .this;
+        }
+
     -- ---- draw
 
     module _ (word : ℕ) where
@@ -166,3 +176,16 @@ module _ {g : Shape} {t : Tables} (o : Filled g t) {h c : ℕ} (hh : h < g .heap
           leaves o hh hc (draw-only t k word room some)
           (record { place = drawnAt t k word; below = drawn-below t k room some word; is = refl })
           (draw-gone t k room some word (filled-distinct o hh hc)) (draw-kept t k room some word) (draw-from t k room some word)
+
+      -- The drawn entry may be pushed again.
+      pub drawn-loose :
+          Loose g (drawEntry t (classHeap g h c) word) (classHeap g h c)
+          (entryAt t (classHeap g h c) (drawnAt t (classHeap g h c) word))
+      drawn-loose =
+          let k = classHeap g h c in
+          let only = draw-only t k word (filled-room o hh hc) some in
+          record {
+            belongs = same-belongs (only-spans o hh hc only) k (entrySpan (entryAt t k (drawnAt t k word))) (drawn-sound .belongs);
+            inRange = drawn-sound .inRange;
+            out = draw-entry-becomes .this;
+          }

@@ -7,17 +7,17 @@ use Prim.Native.Nat.{ℕ, _+_, _<_, _≤_}
 use lib.ListN.{length, getD}
 use Rattle.tables.specs.declared.ClassHeap.{ClassHeap}
 use Rattle.tables.specs.Shape.{Shape, classes, classHeap}
-use Rattle.tables.specs.Cells.{Tables, countAt, entryAt, entryOf, entrySpan, entrySlot}
+use Rattle.tables.specs.Cells.{Tables, countAt, entryAt, entryOf}
 use Rattle.magazine.specs.Magazine.{pushEntries}
 use Rattle.magazine.proofs.OtherMagazines.{pushes-only}
 use Rattle.magazine.proofs.PushesLaws.{pushes-count, pushes-each, pushes-kept, pushes-among, pushes-from, pushes-distinct}
 use Rattle.span.specs.declared.BlockState.the-variants.{Cached}
-use Rattle.span.specs.State.{stateOf}
 use Rattle.sound.specs.Sound.{EntrySound}
 use Rattle.sound.specs.Filled.{Filled}
 use Rattle.filled_magazines.proofs.FilledFacts.{filled-room, filled-distinct, filled-entry}
 use Rattle.filled_magazines.proofs.StateLaws.{among-is-cached}
 use Rattle.filled_magazines.proofs.SameSpans.{same-entry}
+use Rattle.filled_magazines.proofs.Becomes.{AllBecome}
 use Rattle.filled_magazines.proofs.OneMagazine.{only-spans, only-filled, only-state}
 use Rattle.filled_magazines.proofs.MagazineSteps.{Loose, loose-sound, loose-in-none}
 
@@ -51,22 +51,16 @@ module _ {g : Shape} {t : Tables} (o : Filled g t) {h c : ℕ} (hh : h < g .heap
             (λ j l. loose-in-none o hh hc (p .loose j l)) .apart;
       })
 
-  -- Their blocks become cached.
-  pub push-entries-cached :
-      (j : ℕ) →
-      j < length es →
-      stateOf g (pushEntries es t (classHeap g h c)) (entrySpan (getD es j 0)) (entrySlot (getD es j 0)) ≡ Cached
-  push-entries-cached j l =
-      among-is-cached push-entries-filled hh hc (pushes-among es t (classHeap g h c) (filled-room o hh hc) (p .fits) j l)
-
-  -- Every other block of every used span keeps its state.
-  pub push-entries-others :
-      (x y : ℕ) →
-      x < t .used →
-      ((j : ℕ) → j < length es → getD es j 0 ≡ entryOf x y → ⊥) →
-      stateOf g (pushEntries es t (classHeap g h c)) x y ≡ stateOf g t x y
-  push-entries-others x y l n =
+  -- Their blocks become cached, and every other block of every used span keeps its state.
+  pub push-entries-become : AllBecome g t (pushEntries es t (classHeap g h c)) es Cached
+  push-entries-become =
       let k = classHeap g h c in
       let room = filled-room o hh hc in
-      only-state o hh hc (pushes-only es t k room (p .fits)) x y l (pushes-kept es t k room (p .fits) (entryOf x y))
-      (λ a. ⊎-elim (λ s. s) (λ w. absurd (n (w .0) (w .1) (w .2))) (pushes-from es t k room (p .fits) (entryOf x y) a))
+      let only = pushes-only es t k room (p .fits) in
+      record {
+        these = λ j l. among-is-cached push-entries-filled hh hc (pushes-among es t k room (p .fits) j l);
+        others =
+            λ x y hx hy n.
+            only-state o hh hc only x y hx (pushes-kept es t k room (p .fits) (entryOf x y))
+            (λ a. ⊎-elim (λ s. s) (λ w. absurd (n (w .0) (w .1) (w .2))) (pushes-from es t k room (p .fits) (entryOf x y) a));
+      }
