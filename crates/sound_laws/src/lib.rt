@@ -1,0 +1,1 @@
+// What follows from soundness: fresh tables have it, and it gives what the code asks. Theorems only, no code.
