@@ -1,2 +1,3 @@
 pub mod FreshSound
 pub mod SoundFilled
+pub mod UnusedCells
