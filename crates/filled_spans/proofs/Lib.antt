@@ -1,0 +1,5 @@
+pub mod SpanValues
+pub mod BlockStates
+pub mod FilledKept
+pub mod OwnSpan
+pub mod SpanStores
