@@ -1,8 +1,9 @@
 -- What a block's state tells of its bits and of its magazine, and the other way. Assumes nothing.
 use mathlib.Core.Path.{_≡_, refl, ap, _∙_}
 use mathlib.Core.Bool.{Bool, true, false, cond}
-use Prim.Native.Nat.{ℕ}
+use Prim.Native.Nat.{ℕ, _<_}
 use native.Mathlib.Omega.{arith}
+use Rattle.size_classes.specs.Slots.{mostSlots}
 use Rattle.tables.specs.Shape.{Shape, classHeap}
 use Rattle.tables.specs.Cells.{Tables, entryOf}
 use Rattle.magazine.specs.Magazine.{isCached}
@@ -81,3 +82,8 @@ pub same-tests :
     stateOf g u r q ≡ stateOf g t r q
 unfolding stateOf
 same-tests g t u r q a b c = λ i. stateBy (a i) (b i) (c i)
+
+-- from t to u the named slots of span s came to this state, and every other block of every span kept its own
+pub record Becomes (g : Shape) (t u : Tables) (s : ℕ) (Named : ℕ → Type 0) (state : BlockState) : Type 0 where
+  pub named : (q : ℕ) → q < mostSlots → Named q → stateOf g u s q ≡ state
+  pub others : (r q : ℕ) → q < mostSlots → (r ≡ s → Named q → ⊥) → stateOf g u r q ≡ stateOf g t r q

@@ -3,3 +3,6 @@ pub mod BlockStates
 pub mod FilledKept
 pub mod OwnSpan
 pub mod SpanStores
+pub mod StoredKept
+pub mod ReleaseKept
+pub mod ClaimKept
