@@ -6,3 +6,4 @@ pub mod SpanStores
 pub mod StoredKept
 pub mod ReleaseKept
 pub mod ClaimKept
+pub mod RemoteFreeKept

@@ -9,23 +9,23 @@ use native.Mathlib.Decide.{ℕ-discrete}
 use native.Mathlib.Omega.{arith}
 use lib.Dec.{eqb}
 use lib.ListN.{length, take, drop, getD}
-use lib.Seq.{getD-take, getD-drop}
+use lib.Seq.{getD-take, getD-drop, ext-getD}
 use Rattle.laws.specs.Word.{allOnes, isSet}
 use Rattle.laws.proofs.BitLaws.{lt-or-le}
 use Rattle.laws.proofs.SumLaws.{sum-same}
 use Rattle.size_classes.specs.SlotSizes.{slotSize}
 use Rattle.size_classes.specs.Slots.{mostSlots}
 use Rattle.size_classes.proofs.SlotTheorems.{slots-most}
-use Rattle.occupancy.specs.Occupied.{wordOf}
+use Rattle.occupancy.specs.Occupied.{occupancy, wordOf}
 use Rattle.occupancy.specs.Right.{isTaken, Right, Pending}
 use Rattle.tables.specs.Shape.{Shape, classes, classHeap, bitmapCells, recordCells}
-use Rattle.tables.specs.Cells.{Tables, bitmapCell, bitmapWord, localSummary, localWord, remoteSummary, remoteWord, classAt, ownerAt}
+use Rattle.tables.specs.Cells.{Tables, bitmapCell, bitmapWord, localSummary, localWord, remoteSummary, remoteWord, classAt, ownerAt, occupiedAt}
 use Rattle.tables.specs.Stated.{Stated}
 use Rattle.tables.proofs.CellLaws.{bitmap-next, local-in, remote-in, summaries-in}
 use Rattle.tables.proofs.StatedLaws.{stated-passed}
-use Rattle.span.specs.Span.{loaded, pendingWords}
+use Rattle.span.specs.Span.{loaded, localWords, pendingWords}
 use Rattle.span.specs.State.{isOccupied, isPending}
-use Rattle.span.specs.Room.{SpanCells, Foldable}
+use Rattle.span.specs.Room.{WordCells, SpanCells, Foldable}
 use Rattle.span.proofs.CellsThere.{local-there, part-long}
 use Rattle.sound.specs.Sound.{homeOf, SpanFilled}
 use Rattle.sound.specs.Filled.{Filled}
@@ -76,6 +76,25 @@ module _ (t : Tables) (s : ℕ) where
 
   pub listed-pending : (q : ℕ) → q < mostSlots → isSet (getD (pendingWords t s) (q / 64) 0) (q % 64) ≡ isPending t s q
   listed-pending q h = ap (λ (z : ℕ). isSet z (q % 64)) (pending-word (q / 64) (slot-place h))
+
+-- An occupancy whose cells stay is loaded as before.
+pub same-loaded :
+    (t u : Tables) (s : ℕ) →
+    WordCells (t .bits) s →
+    length (u .bits) ≡ length (t .bits) →
+    ((i : ℕ) → i < remoteSummary → bitmapWord u s i ≡ bitmapWord t s i) →
+    occupiedAt u s ≡ occupiedAt t s →
+    loaded u s ≡ loaded t s
+same-loaded t u s cells lengths word count =
+    let there : WordCells (u .bits) s = record { there = rw lengths (cells .there) } in
+    let after : length (localWords u s) ≡ 64 = part-long (u .bits) (bitmapCell s (localWord 0)) (local-there (u .bits) s there) in
+    let before : length (localWords t s) ≡ 64 = part-long (t .bits) (bitmapCell s (localWord 0)) (local-there (t .bits) s cells) in
+    let words : localWords u s ≡ localWords t s =
+    ext-getD 0 (localWords u s) (localWords t s) (after ∙ sym before)
+    (λ i l.
+    let h : i < 64 = omega arith in
+    loaded-word u s i h ∙ word (localWord i) (omega arith) ∙ sym (loaded-word t s i h)) in
+    λ i. occupancy (word localSummary (omega arith) i) (words i) (count i)
 
 -- ---- from cells to values
 
