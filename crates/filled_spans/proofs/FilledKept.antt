@@ -42,6 +42,39 @@ pub record OnlyOccupancy (t u : Tables) (s : ℕ) : Type 0 where
   pub used : u .used ≡ t .used
   pub own : (f : ℕ) → f ≤ nextField → (f ≡ occupiedField → ⊥) → spanField u s f ≡ spanField t s f
 
+-- Nothing changed, and one such step after another.
+pub only-none : (t : Tables) (s : ℕ) → OnlyOccupancy t t s
+only-none t s =
+    record {
+      span =
+          record {
+            bitsLength = refl;
+            spansLength = refl;
+            entries = refl;
+            heads = refl;
+            words = λ r i h n. refl;
+            fields = λ r k h n. refl;
+          };
+      used = refl;
+      own = λ k h n. refl;
+    }
+
+pub only-then : (t u v : Tables) (s : ℕ) → OnlyOccupancy t u s → OnlyOccupancy u v s → OnlyOccupancy t v s
+only-then t u v s a b =
+    record {
+      span =
+          record {
+            bitsLength = b .span .bitsLength ∙ a .span .bitsLength;
+            spansLength = b .span .spansLength ∙ a .span .spansLength;
+            entries = b .span .entries ∙ a .span .entries;
+            heads = b .span .heads ∙ a .span .heads;
+            words = λ r i h n. b .span .words r i h n ∙ a .span .words r i h n;
+            fields = λ r k h n. b .span .fields r k h n ∙ a .span .fields r k h n;
+          };
+      used = b .used ∙ a .used;
+      own = λ k h n. b .own k h n ∙ a .own k h n;
+    }
+
 -- An entry is that of its span and its slot.
 pub entry-whole : (e : ℕ) → entryOf (entrySpan e) (entrySlot e) ≡ e
 unfolding entryOf entrySpan entrySlot

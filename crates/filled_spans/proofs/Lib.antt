@@ -7,3 +7,5 @@ pub mod StoredKept
 pub mod ReleaseKept
 pub mod ClaimKept
 pub mod RemoteFreeKept
+pub mod ClearedCells
+pub mod ReclaimKept

@@ -182,8 +182,7 @@ module _ (g : Shape) (t : Tables) (f : Filled g t) (s : ℕ) (h : s < t .used) (
       (remote-right t s cells q below (homeOf g t s .slots) inside (was .occupied)
       (record { word = λ i l m. c .word i m; summary = c .remote; held = c .pending }))
       (λ p l e.
-      let k = kept-means g t f s h p l e in
-      (
+      let k = kept-means g t f s h p l e in (
         remote-occupied t s cells q below p l ∙ k .0,
         remote-others t s cells q below p l (λ z. true≢false (sym (subst (λ (x : ℕ). isKept g t s x ≡ true) z e) ∙ was .notKept)) ∙ k .1,
       ))
