@@ -9,3 +9,4 @@ pub mod ClaimKept
 pub mod RemoteFreeKept
 pub mod ClearedCells
 pub mod ReclaimKept
+pub mod NewSpanKept

@@ -16,7 +16,7 @@ use Rattle.span.specs.Room.{WordCells, FieldCells}
 use Rattle.span.proofs.CellsThere.{word-there, field-there}
 
 -- A cell that is none of the copied ones stays.
-paste-other :
+pub paste-other :
     (d : List ℕ) (at : ℕ) (xs : List ℕ) (n p : ℕ) →
     at ≤ length d →
     n ≤ length xs →

@@ -52,9 +52,9 @@ class-most g h c = slots-most (slotSize (g .sizes) c)
 pub home-most : (g : Shape) (t : Tables) (s : ℕ) → homeOf g t s .slots ≤ mostSlots
 home-most g t s = class-most g (ownerAt t s) (classAt t s)
 
-pub home-within : (g : Shape) (t : Tables) (s : ℕ) → homeOf g t s .slots ≤ 4096
+pub class-within : (g : Shape) (h c : ℕ) → classHeap g h c .slots ≤ 4096
 unfolding mostSlots
-home-within g t s = home-most g t s
+class-within g h c = class-most g h c
 
 module _ (t : Tables) (s : ℕ) where
   -- A word of the loaded occupancy is the span's local word, and a pending word its remote word.
@@ -122,7 +122,7 @@ module _ (g : Shape) (t : Tables) (f : Filled g t) where
     filled-right =
         let c = f .spans s h in
         record {
-          within = home-within g t s;
+          within = class-within g (ownerAt t s) (classAt t s);
           long = part-long (t .bits) (bitmapCell s (localWord 0)) (local-there (t .bits) s (filled-cells s h .words));
           small = λ i l. rw (loaded-word t s i l) (c .word (localWord i) (local-in l));
           top = c .word localSummary (summaries-in (omega arith));
