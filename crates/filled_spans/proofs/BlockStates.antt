@@ -1,10 +1,10 @@
 -- What a block's state tells of its bits and of its magazine, and the other way. Assumes nothing.
-use mathlib.Core.Path.{_≡_, refl, ap, _∙_}
+use mathlib.Core.Path.{_≡_, refl}
 use mathlib.Core.Bool.{Bool, true, false, cond}
 use Prim.Native.Nat.{ℕ, _<_}
 use native.Mathlib.Omega.{arith}
 use Rattle.size_classes.specs.Slots.{mostSlots}
-use Rattle.tables.specs.Shape.{Shape, classHeap}
+use Rattle.tables.specs.Shape.{Shape}
 use Rattle.tables.specs.Cells.{Tables, entryOf}
 use Rattle.magazine.specs.Magazine.{isCached}
 use Rattle.span.specs.declared.BlockState.{BlockState}

@@ -1,11 +1,10 @@
 -- A claim of a span: the table stays filled, the slots of the mask were free and are out, and every other block is as before. Assumes nothing.
-use mathlib.Core.Path.{_≡_, refl, sym, ap, ap₂, subst, _∙_}
+use mathlib.Core.Path.{_≡_, refl, sym, ap, subst, _∙_}
 use mathlib.Core.Bool.{Bool, true, false, true≢false}
-use mathlib.Core.Logic.{_⊎_, inl, inr, ⊎-elim}
+use mathlib.Core.Logic.{⊎-elim}
 use Prim.Native.Nat.{ℕ, _+_, _*_, _/_, _%_, _<_}
 use native.Mathlib.Nat.{mod-lt, div-add-mod'}
 use native.Mathlib.Decide.{ℕ-discrete}
-use native.Mathlib.Omega.{arith}
 use lib.Dec.{lit<}
 use Rattle.laws.specs.Word.{isSet, popcount}
 use Rattle.laws.proofs.FirstLaws.{tested}
@@ -13,7 +12,7 @@ use Rattle.size_classes.specs.Slots.{mostSlots}
 use Rattle.occupancy.specs.declared.Occupancy.{Occupancy}
 use Rattle.occupancy.specs.declared.Claimed.{Claimed}
 use Rattle.occupancy.specs.declared.Claimed.the-variants.{Nothing, Taken}
-use Rattle.occupancy.specs.Occupied.{nothing, claim}
+use Rattle.occupancy.specs.Occupied.{claim}
 use Rattle.occupancy.specs.Right.{isTaken, Right, Took}
 use Rattle.occupancy.proofs.ClaimLaws.{claim-right, claim-took, claim-nothing, claim-finds-nothing}
 use Rattle.tables.specs.Shape.{Shape}
@@ -25,7 +24,7 @@ use Rattle.sound.specs.Sound.{homeOf}
 use Rattle.sound.specs.Filled.{Filled}
 use Rattle.filled_spans.proofs.SpanValues.{taken-occupied, filled-cells, filled-right}
 use Rattle.filled_spans.proofs.BlockStates.{isKept, Becomes, means-out, means-free}
-use Rattle.filled_spans.proofs.FilledKept.{other-state}
+use Rattle.filled_spans.proofs.FilledKept.{OnlyOccupancy, other-state}
 use Rattle.filled_spans.proofs.OwnSpan.{kept-means, own-kept}
 use Rattle.filled_spans.proofs.StoredKept.{stored-occupied, stored-pending, stored-only, stored-count, stored-kept, stored-same, stored-becomes}
 
@@ -46,12 +45,16 @@ module _ (slots : ℕ) (o : Occupancy) (r : Right slots o) (m w : ℕ) where
       ap (λ c. isTaken (c .occupancy) q) (claim-finds-nothing slots o r m w (claim-nothing slots o r m w e))
 
   module _ (i mask : ℕ) (e : claim o m w .answer ≡ Taken i mask) where
+    -- what the claim took
     took : Took slots m o i mask (claim o m w .occupancy)
     took = claim-took slots o r m w i mask e
 
-    -- A slot of the mask was free and is taken; another is taken as before.
+    -- A slot of the mask is one of the span, was free and is taken; another is taken as before.
     mask-slot : (q : ℕ) → InMask i mask q → i * 64 + q % 64 ≡ q
     mask-slot q n = ap (λ (z : ℕ). z * 64 + q % 64) (sym (n .word)) ∙ div-add-mod' q 64
+
+    mask-inside : (q : ℕ) → InMask i mask q → q < slots
+    mask-inside q n = subst (λ (z : ℕ). z < slots) (mask-slot q n) (took .inRange (q % 64) (mod-lt q (lit< tt)) (n .bit))
 
     mask-free : (q : ℕ) → InMask i mask q → isTaken o q ≡ false
     mask-free q n = ap (isTaken o) (sym (mask-slot q n)) ∙ took .free (q % 64) (mod-lt q (lit< tt)) (n .bit)
@@ -71,22 +74,27 @@ module _ (slots : ℕ) (o : Occupancy) (r : Right slots o) (m w : ℕ) where
       by-answer (isTaken (claim o m w .occupancy) q ≡ true) (claim o m w .answer) (λ e. none-same e q ∙ t)
       (λ i mask e. mask-others i mask e q (λ n. true≢false (sym t ∙ mask-free i mask e q n)) ∙ t)
 
-module _ (g : Shape) (t : Tables) (f : Filled g t) (s : ℕ) (h : s < t .used) (m w : ℕ) where
-  -- the span's occupancy after the claim
-  abbrev pub claimed : Occupancy
-  claimed = claim (loaded t s) m w .occupancy
+-- the occupancy of span s after a claim of at most m slots with word w
+abbrev pub claimedOf : Tables → ℕ → ℕ → ℕ → Occupancy
+claimedOf t s m w = claim (loaded t s) m w .occupancy
 
+module _ (g : Shape) (t : Tables) (f : Filled g t) (s : ℕ) (h : s < t .used) (m w : ℕ) where
   -- It is right.
-  right : Right (homeOf g t s .slots) claimed
+  right : Right (homeOf g t s .slots) (claimedOf t s m w)
   right = claim-right (homeOf g t s .slots) (loaded t s) (filled-right g t f s h) m w
 
   -- An occupied slot is taken in it.
-  stays : (q : ℕ) → q < mostSlots → isOccupied t s q ≡ true → isTaken claimed q ≡ true
+  stays : (q : ℕ) → q < mostSlots → isOccupied t s q ≡ true → isTaken (claimedOf t s m w) q ≡ true
   stays q l e = claim-stays (homeOf g t s .slots) (loaded t s) (filled-right g t f s h) m w q (taken-occupied t s q l ∙ e)
 
-  pub claim-kept : Filled g (stored t s claimed)
+  -- Nothing but the span's words and its count changed.
+  pub claim-only : OnlyOccupancy t (stored t s (claimedOf t s m w)) s
+  claim-only = stored-only t s (filled-cells g t f s h) (claimedOf t s m w) (right .long)
+
+  -- The table stays filled.
+  pub claim-kept : Filled g (stored t s (claimedOf t s m w))
   claim-kept =
-      stored-kept g t f s h claimed right (λ q l e. stays q l (f .spans s h .pending q l e .1))
+      stored-kept g t f s h (claimedOf t s m w) right (λ q l e. stays q l (f .spans s h .pending q l e .1))
       (λ q l e. stays q l (kept-means g t f s h q l e .0))
 
   -- A claim that finds nothing leaves every block as it was.
@@ -94,18 +102,22 @@ module _ (g : Shape) (t : Tables) (f : Filled g t) (s : ℕ) (h : s < t .used) (
       claim (loaded t s) m w .answer ≡ Nothing →
       (r q : ℕ) →
       q < mostSlots →
-      stateOf g (stored t s claimed) r q ≡ stateOf g t r q
+      stateOf g (stored t s (claimedOf t s m w)) r q ≡ stateOf g t r q
   claim-none-states e r q l =
       elim (ℕ-discrete r s) [
         | yes z ↦
-            subst (λ (x : ℕ). stateOf g (stored t s claimed) x q ≡ stateOf g t x q) (sym z)
-            (stored-same g t f s h claimed right q l
+            subst (λ (x : ℕ). stateOf g (stored t s (claimedOf t s m w)) x q ≡ stateOf g t x q) (sym z)
+            (stored-same g t f s h (claimedOf t s m w) right q l
             (none-same (homeOf g t s .slots) (loaded t s) (filled-right g t f s h) m w e q))
-        | no n ↦ other-state g t (stored t s claimed) s (stored-only t s (filled-cells g t f s h) claimed (right .long) .span) r n q l
+        | no n ↦ other-state g t (stored t s (claimedOf t s m w)) s (claim-only .span) r n q l
       ]
 
   module _ (i mask : ℕ) (e : claim (loaded t s) m w .answer ≡ Taken i mask) where
-    -- The slots of the mask were free,
+    -- The slots of the mask are slots of the span,
+    pub claim-inside : (q : ℕ) → InMask i mask q → q < homeOf g t s .slots
+    claim-inside q n = mask-inside (homeOf g t s .slots) (loaded t s) (filled-right g t f s h) m w i mask e q n
+
+    -- were free,
     clear : (q : ℕ) → q < mostSlots → InMask i mask q → isOccupied t s q ≡ false
     clear q l n =
         sym (taken-occupied t s q l)
@@ -114,23 +126,23 @@ module _ (g : Shape) (t : Tables) (f : Filled g t) (s : ℕ) (h : s < t .used) (
     pub claim-were-free : (q : ℕ) → q < mostSlots → InMask i mask q → stateOf g t s q ≡ Free
     claim-were-free q l n = means-free g t s q (clear q l n)
 
-    -- and are out.
-    pub claim-states : Becomes g t (stored t s claimed) s (InMask i mask) Out
+    -- and are out, and every other block is as before.
+    pub claim-states : Becomes g t (stored t s (claimedOf t s m w)) s (InMask i mask) Out
     claim-states =
         let slots = homeOf g t s .slots in
         let o = filled-right g t f s h in
         let cells = filled-cells g t f s h in
-        let u = stored t s claimed in
-        stored-becomes g t f s h claimed right (InMask i mask)
+        let u = stored t s (claimedOf t s m w) in
+        stored-becomes g t f s h (claimedOf t s m w) right (InMask i mask)
         (λ q l n.
         means-out g u s q
         (record {
-          occupied = stored-occupied t s cells claimed (right .long) q l ∙ mask-taken slots (loaded t s) o m w i mask e q n;
+          occupied = stored-occupied t s cells (claimedOf t s m w) (right .long) q l ∙ mask-taken slots (loaded t s) o m w i mask e q n;
           notPending =
-              stored-pending t s cells claimed (right .long) q l
+              stored-pending t s cells (claimedOf t s m w) (right .long) q l
               ∙ not-so (isPending t s q) (λ p. true≢false (sym (f .spans s h .pending q l p .1) ∙ clear q l n));
           notKept =
-              own-kept g t u s (stored-only t s cells claimed (right .long)) q
+              own-kept g t u s claim-only q
               ∙ not-so (isKept g t s q) (λ p. true≢false (sym (kept-means g t f s h q l p .0) ∙ clear q l n));
         }))
         (λ q l n. mask-others slots (loaded t s) o m w i mask e q n)
@@ -139,7 +151,7 @@ module _ (g : Shape) (t : Tables) (f : Filled g t) (s : ℕ) (h : s < t .used) (
         not-so b n = ⊎-elim (λ p. absurd (n p)) (λ p. p) (tested b)
 
     -- As many more slots are occupied as the mask has.
-    pub claim-occupied : occupiedAt (stored t s claimed) s ≡ occupiedAt t s + popcount mask
+    pub claim-occupied : occupiedAt (stored t s (claimedOf t s m w)) s ≡ occupiedAt t s + popcount mask
     claim-occupied =
-        stored-count t s (filled-cells g t f s h) claimed (right .long)
+        stored-count t s (filled-cells g t f s h) (claimedOf t s m w) (right .long)
         ∙ took (homeOf g t s .slots) (loaded t s) (filled-right g t f s h) m w i mask e .count

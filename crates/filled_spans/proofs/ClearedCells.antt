@@ -1,20 +1,18 @@
 -- What stands in the cells of a span when its pending frees are cleared. Assumes nothing.
-use mathlib.Core.Path.{_≡_, refl, sym, ap, ap₂, _∙_}
-use mathlib.Core.Bool.{Bool, true, false, true≢false, not}
+use mathlib.Core.Path.{_≡_, refl, sym, ap, _∙_}
+use mathlib.Core.Bool.{false, true≢false, not}
 use mathlib.Core.List.{List}
-use Prim.Native.Nat.{ℕ, _+_, _-_, _/_, _%_, _^_, _<_, _≤_}
+use Prim.Native.Nat.{ℕ, _+_, _-_, _/_, _%_, _<_, _≤_}
 use native.Mathlib.Omega.{arith}
 use lib.Dec.{eqb}
 use lib.Pow.{pow-pos}
 use lib.ListN.{length, replicate, length-replicate, getD-replicate}
 use Rattle.laws.specs.Word.{isSet}
 use Rattle.laws.proofs.BitLaws.{bit-zero}
-use Rattle.size_classes.specs.Slots.{mostSlots}
 use Rattle.tables.specs.Shape.{bitmapCells}
 use Rattle.tables.specs.Cells.{Tables, bitmapWord, remoteSummary, remoteWord}
 use Rattle.tables.proofs.CellLaws.{remote-in, summaries-in}
 use Rattle.span.specs.Span.{loaded, clearPending}
-use Rattle.span.specs.State.{isPending}
 use Rattle.span.specs.Room.{WordCells}
 use Rattle.filled_spans.proofs.SpanValues.{slot-place, same-loaded, RemoteRight}
 use Rattle.filled_spans.proofs.FilledKept.{OnlyOccupancy}
@@ -51,6 +49,7 @@ module _ (t : Tables) (s : ℕ) (cells : WordCells (t .bits) s) where
   abbrev zeros : List ℕ
   zeros = replicate 65 0
 
+  -- They are as many as a span's remote side.
   zeros-fit : remoteSummary + 65 ≤ bitmapCells
   zeros-fit = omega (arith, remote-in {i = 63} (omega arith))
 
@@ -71,6 +70,7 @@ module _ (t : Tables) (s : ℕ) (cells : WordCells (t .bits) s) where
       words-other (t .bits) s cells remoteSummary zeros 65 (summaries-in (omega arith)) zeros-fit zeros-long r i h
       (λ e j l k. let z : ⊥ = omega (arith, apart e) in z)
 
+  -- Nothing but the span's words changed.
   pub cleared-only : OnlyOccupancy t (clearPending t s) s
   cleared-only =
       record {

@@ -1,9 +1,9 @@
 -- A step that changes the cells of one span alone: it keeps a table filled where that span is filled afterwards and its cached slots stay occupied
 -- and not pending; and the blocks of every other span keep their state. Assumes nothing.
 use mathlib.Core.Path.{_≡_, refl, sym, ap, ap₂, subst, _∙_}
-use mathlib.Core.Bool.{Bool, true, false, cond}
+use mathlib.Core.Bool.{Bool, cond}
 use mathlib.Core.List.{List}
-use Prim.Native.Nat.{ℕ, _+_, _*_, _/_, _%_, _^_, _<_, _≤_}
+use Prim.Native.Nat.{ℕ, _+_, _/_, _%_, _<_, _≤_}
 use native.Mathlib.Nat.{lt-of-lt-of-le, le-trans, div-add-mod'}
 use native.Mathlib.Decide.{ℕ-discrete}
 use native.Mathlib.Omega.{arith}
@@ -15,17 +15,15 @@ use Rattle.laws.proofs.SumLaws.{sum-same}
 use Rattle.size_classes.specs.Slots.{mostSlots}
 use Rattle.tables.specs.declared.ClassHeap.{ClassHeap}
 use Rattle.tables.specs.Shape.{Shape, classes, classHeap, bitmapCells}
-use Rattle.tables.specs.Cells.{Tables, bitmapWord, localSummary, localWord, remoteSummary, remoteWord, spanField, classField, ownerField, occupiedField, previousField, nextField, classAt, ownerAt, occupiedAt, previousAt, nextAt, headCell, headAt, reserve, counter, countAt, entryAt, entryOf, entrySpan, entrySlot}
-use Rattle.tables.specs.Stated.{Stated}
-use Rattle.tables.proofs.CellLaws.{local-in, remote-in, summaries-in, entry-span, entry-slot}
+use Rattle.tables.specs.Cells.{Tables, bitmapWord, localSummary, localWord, remoteSummary, remoteWord, spanField, classField, ownerField, occupiedField, previousField, nextField, previousAt, nextAt, headCell, counter, countAt, entryAt, entryOf, entrySpan, entrySlot}
+use Rattle.tables.proofs.CellLaws.{local-in, remote-in, summaries-in}
 use Rattle.tables.proofs.StatedLaws.{stated-passed, stated-passes}
 use Rattle.magazine.specs.Magazine.{isCached}
-use Rattle.magazine.proofs.CachedLaws.{cached-among, among-cached}
 use Rattle.span.specs.State.{isOccupied, isPending, stateOf}
-use Rattle.sound.specs.Sound.{homeOf, setBits, SpanFilled, Belongs, EntrySound, MagazineSound}
+use Rattle.sound.specs.Sound.{homeOf, setBits, SpanFilled, EntrySound, MagazineSound}
 use Rattle.sound.specs.Filled.{Filled}
-use Rattle.filled_spans.proofs.SpanValues.{slot-place, class-most, home-most, filled-remote, RemoteRight, span-filled}
-use Rattle.filled_spans.proofs.BlockStates.{isKept, same-tests}
+use Rattle.filled_spans.proofs.SpanValues.{slot-place, class-most, home-most}
+use Rattle.filled_spans.proofs.BlockStates.{same-tests}
 
 -- from t to u no cell changed but those of span s
 pub record OnlySpan (t u : Tables) (s : ℕ) : Type 0 where

@@ -1,8 +1,8 @@
 -- A step that changes the words and the count of one used span alone: what keeps the table filled, and the state of the span's own blocks. Assumes
 -- nothing.
-use mathlib.Core.Path.{_≡_, refl, sym, ap, ap₂, subst, _∙_}
-use mathlib.Core.Bool.{Bool, true, false}
-use Prim.Native.Nat.{ℕ, _<_, _≤_}
+use mathlib.Core.Path.{_≡_, sym, ap, ap₂, subst, _∙_}
+use mathlib.Core.Bool.{true, false}
+use Prim.Native.Nat.{ℕ, _<_}
 use native.Mathlib.Nat.{lt-of-lt-of-le}
 use native.Mathlib.Omega.{arith}
 use Rattle.size_classes.specs.Slots.{mostSlots}
@@ -19,7 +19,7 @@ use Rattle.sound.specs.Sound.{homeOf, Belongs, EntrySound}
 use Rattle.sound.specs.Filled.{Filled}
 use Rattle.filled_spans.proofs.SpanValues.{class-most, RemoteRight, span-filled}
 use Rattle.filled_spans.proofs.BlockStates.{isKept, same-tests}
-use Rattle.filled_spans.proofs.FilledKept.{OnlyOccupancy, Refilled, entry-whole, same-cached, filled-after}
+use Rattle.filled_spans.proofs.FilledKept.{OnlyOccupancy, entry-whole, same-cached, filled-after}
 
 module _ (g : Shape) (t : Tables) (f : Filled g t) (s : ℕ) where
   -- A span that belongs to a class of a heap has it for its home.

@@ -1,8 +1,8 @@
 -- The fold of a span's pending frees: the table stays filled, every pending block of the span is free and none is pending, every other block is as
 -- before, and the count falls by the pending ones. Assumes nothing.
 use mathlib.Core.Path.{_≡_, refl, sym, ap, ap₂, subst, _∙_}
-use mathlib.Core.Bool.{Bool, true, false, true≢false, _&&_, not, cond}
-use mathlib.Core.Logic.{_⊎_, inl, inr, ⊎-elim}
+use mathlib.Core.Bool.{Bool, true, false, true≢false, _&&_, not}
+use mathlib.Core.Logic.{⊎-elim}
 use Prim.Native.Nat.{ℕ, _+_, _/_, _%_, _<_, _≤_}
 use native.Mathlib.Nat.{add-zero}
 use native.Mathlib.Decide.{ℕ-discrete}
@@ -53,9 +53,11 @@ module _ (g : Shape) (t : Tables) (f : Filled g t) (s : ℕ) (h : s < t .used) w
   abbrev between : Tables
   between = stored t s rest
 
+  -- the span's cells are there, before and then
   abbrev cells : SpanCells (t .bits) (t .spans) s
   cells = filled-cells g t f s h
 
+  -- That occupancy is right, and its store changes the span alone.
   right : Right (homeOf g t s .slots) rest
   right = fold-right (homeOf g t s .slots) (pendingWords t s) (loaded t s) (filled-right g t f s h) (filled-pending g t f s h)
 
@@ -76,8 +78,8 @@ module _ (g : Shape) (t : Tables) (f : Filled g t) (s : ℕ) (h : s < t .used) w
   reclaim-loaded = cleared-loaded between s there ∙ stored-loaded t s cells rest (right .long)
 
   -- A slot is occupied where it was and was not pending.
-  reclaim-occupied : (q : ℕ) → q < mostSlots → isOccupied (reclaimPending t s) s q ≡ (isOccupied t s q && not (isPending t s q))
-  reclaim-occupied q l =
+  reclaim-bit : (q : ℕ) → q < mostSlots → isOccupied (reclaimPending t s) s q ≡ (isOccupied t s q && not (isPending t s q))
+  reclaim-bit q l =
       sym (taken-occupied (reclaimPending t s) s q l)
       ∙ ap (λ o. isTaken o q) reclaim-loaded
       ∙ fold-taken (homeOf g t s .slots) (pendingWords t s) (loaded t s) (filled-right g t f s h) (filled-pending g t f s h) q (slot-below l)
@@ -88,6 +90,7 @@ module _ (g : Shape) (t : Tables) (f : Filled g t) (s : ℕ) (h : s < t .used) w
   unfolding reclaimPending
   reclaim-words i l m = cleared-none between s there i l m
 
+  -- Nothing of the span is pending afterwards, by its slots and by its summary.
   pub reclaim-none : (q : ℕ) → q < mostSlots → isPending (reclaimPending t s) s q ≡ false
   reclaim-none q l =
       ap (λ (z : ℕ). isSet z (q % 64)) (reclaim-words (remoteWord (q / 64)) (omega arith) (remote-in (slot-place l))) ∙ zero-clear (q % 64)
@@ -95,14 +98,16 @@ module _ (g : Shape) (t : Tables) (f : Filled g t) (s : ℕ) (h : s < t .used) w
   pub reclaim-had : hasPending (reclaimPending t s) s ≡ false
   reclaim-had = ap (leb 1) (reclaim-words remoteSummary (omega arith) (summaries-in (omega arith)))
 
+  -- The table stays filled.
   pub reclaim-kept : Filled g (reclaimPending t s)
   reclaim-kept =
       filled-own g t (reclaimPending t s) s reclaim-only f h (subst (Right (homeOf g t s .slots)) (sym reclaim-loaded) right)
       (none-right (reclaimPending t s) s (homeOf g t s .slots) reclaim-words)
       (λ q l e.
       let k = kept-means g t f s h q l e in
-      (reclaim-occupied q l ∙ ap₂ (λ (a b : Bool). a && not b) (k .0) (k .1), reclaim-none q l))
+      (reclaim-bit q l ∙ ap₂ (λ (a b : Bool). a && not b) (k .0) (k .1), reclaim-none q l))
 
+  -- Every pending block of the span is free, and every other block is as before.
   pub reclaim-states : Becomes g t (reclaimPending t s) s (WasPending g t s) Free
   reclaim-states =
       record {
@@ -110,7 +115,7 @@ module _ (g : Shape) (t : Tables) (f : Filled g t) (s : ℕ) (h : s < t .used) w
             λ q l e.
             let k = pending-means g t s q e in
             means-free g (reclaimPending t s) s q
-            (reclaim-occupied q l ∙ ap₂ (λ (a b : Bool). a && not b) (k .occupied) (k .pending));
+            (reclaim-bit q l ∙ ap₂ (λ (a b : Bool). a && not b) (k .occupied) (k .pending));
         others = λ r q l n. go r q l n (ℕ-discrete r s);
       }
     where
@@ -123,13 +128,13 @@ module _ (g : Shape) (t : Tables) (f : Filled g t) (s : ℕ) (h : s < t .used) w
       go r q l n (yes e) =
           subst (λ (x : ℕ). stateOf g (reclaimPending t s) x q ≡ stateOf g t x q) (sym e)
           (own-state g t (reclaimPending t s) s reclaim-only q
-          (reclaim-occupied q l ∙ ap (λ (b : Bool). isOccupied t s q && not b) (clear q l (n e)) ∙ and-true (isOccupied t s q))
+          (reclaim-bit q l ∙ ap (λ (b : Bool). isOccupied t s q && not b) (clear q l (n e)) ∙ and-true (isOccupied t s q))
           (reclaim-none q l ∙ sym (clear q l (n e))))
       go r q l n (no z) = other-state g t (reclaimPending t s) s (reclaim-only .span) r z q l
 
   -- The count falls by the pending slots.
-  pub reclaim-count : occupiedAt (reclaimPending t s) s + pendingCount t s ≡ occupiedAt t s
-  reclaim-count =
+  pub reclaim-occupied : occupiedAt (reclaimPending t s) s + pendingCount t s ≡ occupiedAt t s
+  reclaim-occupied =
       ap₂ _+_ (ap (λ o. o .count) reclaim-loaded)
       (sum-same 64 (λ i. popcount (bitmapWord t s (remoteWord i))) (λ i. popcount (getD (pendingWords t s) i 0))
       (λ i l. ap popcount (sym (pending-word t s i l))))
@@ -156,12 +161,15 @@ module _ (g : Shape) (t : Tables) (f : Filled g t) (s : ℕ) (h : s < t .used) w
   unfolding folded
   by-pending P some none = cond-both P (hasPending t s) (reclaimPending t s) t (λ e. some) none
 
+  -- Nothing but the span's words and its count changed.
   pub folded-only : OnlyOccupancy t (folded t s) s
   folded-only = by-pending (λ u. OnlyOccupancy t u s) reclaim-only (λ e. only-none t s)
 
+  -- The table stays filled.
   pub folded-kept : Filled g (folded t s)
   folded-kept = by-pending (Filled g) reclaim-kept (λ e. f)
 
+  -- Every pending block of the span is free, and every other block is as before.
   pub folded-states : Becomes g t (folded t s) s (WasPending g t s) Free
   folded-states =
       by-pending (λ u. Becomes g t u s (WasPending g t s) Free) reclaim-states
@@ -171,7 +179,7 @@ module _ (g : Shape) (t : Tables) (f : Filled g t) (s : ℕ) (h : s < t .used) w
         others = λ r q l n. refl;
       })
 
-  -- Nothing of the span is pending afterwards.
+  -- Nothing of the span is pending afterwards, by its slots and by its summary.
   pub folded-none : (q : ℕ) → q < mostSlots → isPending (folded t s) s q ≡ false
   folded-none = by-pending (λ u. (q : ℕ) → q < mostSlots → isPending u s q ≡ false) reclaim-none unset-slot
 
@@ -179,9 +187,9 @@ module _ (g : Shape) (t : Tables) (f : Filled g t) (s : ℕ) (h : s < t .used) w
   folded-had = by-pending (λ u. hasPending u s ≡ false) reclaim-had (λ e. e)
 
   -- The count falls by the pending slots.
-  pub folded-count : occupiedAt (folded t s) s + pendingCount t s ≡ occupiedAt t s
-  folded-count =
-      by-pending (λ u. occupiedAt u s + pendingCount t s ≡ occupiedAt t s) reclaim-count
+  pub folded-occupied : occupiedAt (folded t s) s + pendingCount t s ≡ occupiedAt t s
+  folded-occupied =
+      by-pending (λ u. occupiedAt u s + pendingCount t s ≡ occupiedAt t s) reclaim-occupied
       (λ e.
       ap (λ (z : ℕ). occupiedAt t s + z)
       (sum-none 64 (λ i. popcount (bitmapWord t s (remoteWord i))) (λ i l. ap popcount (unset-word e i l) ∙ ones-none 64))

@@ -1,10 +1,8 @@
 -- A slot back to its span: the table stays filled, the block is free, and every other block is as before. Assumes nothing.
-use mathlib.Core.Path.{_≡_, refl, sym, ap, subst, _∙_}
-use mathlib.Core.Bool.{Bool, true, false, true≢false}
-use mathlib.Core.Logic.{_⊎_, inl, inr}
+use mathlib.Core.Path.{_≡_, sym, ap, subst, _∙_}
+use mathlib.Core.Bool.{true, true≢false}
 use Prim.Native.Nat.{ℕ, _+_, _<_}
 use native.Mathlib.Nat.{lt-of-lt-of-le}
-use native.Mathlib.Decide.{ℕ-discrete}
 use Rattle.size_classes.specs.Slots.{mostSlots}
 use Rattle.occupancy.specs.Occupied.{releaseSlot}
 use Rattle.occupancy.specs.Right.{isTaken, Right}
@@ -17,9 +15,10 @@ use Rattle.span.specs.State.{isOccupied, isPending, stateOf}
 use Rattle.sound.specs.Sound.{homeOf}
 use Rattle.sound.specs.Filled.{Filled}
 use Rattle.filled_spans.proofs.SpanValues.{home-most, taken-occupied, filled-cells, filled-right}
-use Rattle.filled_spans.proofs.BlockStates.{isKept, Becomes, IsOut, out-means, means-free}
+use Rattle.filled_spans.proofs.BlockStates.{isKept, Becomes, out-means, means-free}
+use Rattle.filled_spans.proofs.FilledKept.{OnlyOccupancy}
 use Rattle.filled_spans.proofs.OwnSpan.{kept-means}
-use Rattle.filled_spans.proofs.StoredKept.{stored-occupied, stored-count, stored-kept, stored-becomes}
+use Rattle.filled_spans.proofs.StoredKept.{stored-occupied, stored-only, stored-count, stored-kept, stored-becomes}
 
 module _ (g : Shape) (t : Tables) (f : Filled g t) (s : ℕ) (h : s < t .used) (q : ℕ) (inside : q < homeOf g t s .slots) (out : stateOf g t s q ≡ Out) where
   -- The slot is one of a span, and taken.
@@ -40,6 +39,12 @@ module _ (g : Shape) (t : Tables) (f : Filled g t) (s : ℕ) (h : s < t .used) (
   stays : (p : ℕ) → p < mostSlots → (p ≡ q → ⊥) → isOccupied t s p ≡ true → isTaken (releaseSlot (loaded t s) q) p ≡ true
   stays p l n e = others p n ∙ taken-occupied t s p l ∙ e
 
+  -- Nothing but the span's words and its count changed.
+  pub release-only : OnlyOccupancy t (deallocSlot t s q) s
+  unfolding deallocSlot
+  release-only = stored-only t s (filled-cells g t f s h) (releaseSlot (loaded t s) q) (right .long)
+
+  -- The table stays filled.
   pub release-kept : Filled g (deallocSlot t s q)
   unfolding deallocSlot
   release-kept =
@@ -50,6 +55,7 @@ module _ (g : Shape) (t : Tables) (f : Filled g t) (s : ℕ) (h : s < t .used) (
       (λ p l e.
       stays p l (λ z. true≢false (sym (subst (λ (x : ℕ). isKept g t s x ≡ true) z e) ∙ was .notKept)) (kept-means g t f s h p l e .0))
 
+  -- The block is free, and every other block is as before.
   pub release-states : Becomes g t (deallocSlot t s q) s (λ p. p ≡ q) Free
   unfolding deallocSlot
   release-states =

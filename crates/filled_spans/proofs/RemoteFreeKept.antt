@@ -1,19 +1,18 @@
 -- A free by another heap: the table stays filled, the block is pending, and every other block is as before. Assumes nothing.
 use mathlib.Core.Path.{_≡_, refl, sym, ap, ap₂, subst, _∙_}
-use mathlib.Core.Bool.{Bool, true, false, true≢false, not}
-use mathlib.Core.List.{List}
-use Prim.Native.Nat.{ℕ, _+_, _/_, _%_, _^_, _<_, _≤_}
-use native.Mathlib.Nat.{lt-of-lt-of-le, mod-lt, div-add-mod'}
+use mathlib.Core.Bool.{true, true≢false, not}
+use Prim.Native.Nat.{ℕ, _/_, _%_, _^_, _<_, _≤_}
+use native.Mathlib.Nat.{lt-of-lt-of-le, mod-lt}
 use native.Mathlib.Decide.{ℕ-discrete}
 use native.Mathlib.Omega.{arith}
 use lib.Dec.{eqb, lit<}
-use lib.ListN.{length, getD, set, length-set}
+use lib.ListN.{set, length-set}
 use lib.Seq.{getD-set-same, getD-set-other}
 use borrow.Author.Tests.{ne-eqb}
 use Rattle.laws.specs.Word.{bitAt, isSet, setBit}
 use Rattle.laws.proofs.BitLaws.{bit-zero, bit-set-same, bit-set-other, set-lt}
 use Rattle.size_classes.specs.Slots.{mostSlots}
-use Rattle.occupancy.specs.Right.{isTaken, Right}
+use Rattle.occupancy.specs.Right.{Right}
 use Rattle.tables.specs.Shape.{Shape, bitmapCells}
 use Rattle.tables.specs.Cells.{Tables, bitmapCell, bitmapWord, localWord, remoteSummary, remoteWord}
 use Rattle.tables.proofs.CellLaws.{bitmap-same, local-in, remote-in, summaries-in}
@@ -77,6 +76,7 @@ module _ (t : Tables) (s : ℕ) (cells : WordCells (t .bits) s) (q : ℕ) (h : q
       ∙ getD-set-other (t .bits) (bitmapCell s at) (bitmapCell r i) (setBit (bitmapWord t s at) (q % 64)) 0
       (λ e. let k = bitmap-same r s hi at-in e in a (k .0) (k .1))
 
+  -- Nothing but the span's words changed.
   pub remote-only : OnlyOccupancy t (remoteFree t s q) s
   unfolding remoteFree
   remote-only =
@@ -102,6 +102,7 @@ module _ (t : Tables) (s : ℕ) (cells : WordCells (t .bits) s) (q : ℕ) (h : q
       remote-other s i (summaries-in (omega arith)) (λ e z. let y : ⊥ = omega arith in y) (λ e z. let y : ⊥ = omega arith in y))
       (unfold remoteFree in refl)
 
+  -- Every slot is occupied as before.
   pub remote-occupied : (p : ℕ) → p < mostSlots → isOccupied (remoteFree t s q) s p ≡ isOccupied t s p
   remote-occupied p l =
       let k = slot-place l in
@@ -167,12 +168,14 @@ module _ (t : Tables) (s : ℕ) (cells : WordCells (t .bits) s) (q : ℕ) (h : q
 -- ---- the step
 
 module _ (g : Shape) (t : Tables) (f : Filled g t) (s : ℕ) (h : s < t .used) (q : ℕ) (inside : q < homeOf g t s .slots) (out : stateOf g t s q ≡ Out) where
+  -- the span's cells are there, and the slot is one of a span
   abbrev cells : WordCells (t .bits) s
   cells = filled-cells g t f s h .words
 
   below : q < mostSlots
   below = lt-of-lt-of-le inside (home-most g t s)
 
+  -- The table stays filled.
   pub remote-kept : Filled g (remoteFree t s q)
   remote-kept =
       let was = out-means g t s q out in
@@ -187,6 +190,7 @@ module _ (g : Shape) (t : Tables) (f : Filled g t) (s : ℕ) (h : s < t .used) (
         remote-others t s cells q below p l (λ z. true≢false (sym (subst (λ (x : ℕ). isKept g t s x ≡ true) z e) ∙ was .notKept)) ∙ k .1,
       ))
 
+  -- The block is pending, and every other block is as before.
   pub remote-states : Becomes g t (remoteFree t s q) s (λ p. p ≡ q) Pending
   remote-states =
       record {

@@ -1,9 +1,9 @@
 -- What stands in the cells of a span after a row of words is copied over its words and after a field is stored, and that no other cell changed.
 -- Assumes nothing.
-use mathlib.Core.Path.{_≡_, refl, sym, ap, _∙_}
-use mathlib.Core.List.{List, [], _∷_}
-use mathlib.Core.Logic.{_⊎_, inl, inr, ⊎-elim}
-use Prim.Native.Nat.{ℕ, zero, suc, _+_, _-_, _<_, _≤_}
+use mathlib.Core.Path.{_≡_, sym, ap, _∙_}
+use mathlib.Core.List.{List}
+use mathlib.Core.Logic.{⊎-elim}
+use Prim.Native.Nat.{ℕ, _+_, _-_, _<_, _≤_}
 use native.Mathlib.Omega.{arith}
 use lib.ListN.{length, getD, set}
 use lib.Seq.{paste, length-paste, getD-set-same, getD-set-other}
@@ -29,6 +29,7 @@ paste-other d at xs n p hd hx apart =
 
 -- A row of n words is copied over the words of span s from word a on.
 module _ (bits : List ℕ) (s : ℕ) (cells : WordCells bits s) (a : ℕ) (xs : List ℕ) (n : ℕ) (ha : a < bitmapCells) (fits : a + n ≤ bitmapCells) (hx : n ≤ length xs) where
+  -- the words then
   abbrev copied : List ℕ
   copied = paste bits (bitmapCell s a) xs n
 
@@ -54,6 +55,7 @@ module _ (bits : List ℕ) (s : ℕ) (cells : WordCells bits s) (a : ℕ) (xs : 
 
 -- Field f of span s is stored.
 module _ (spans : List ℕ) (s : ℕ) (cells : FieldCells spans s) (f v : ℕ) (hf : f ≤ nextField) where
+  -- It holds what was stored, and every other field of every span stays.
   pub field-in-place : getD (set spans (spanCell s f) v) (spanCell s f) 0 ≡ v
   field-in-place = getD-set-same spans (spanCell s f) v 0 (field-there spans s cells f hf)
 

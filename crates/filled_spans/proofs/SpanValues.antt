@@ -1,16 +1,16 @@
 -- One used span of a filled table as values: its cells are there, its occupancy is right, and its pending slots are taken; and values give back
 -- cells. Assumes nothing.
-use mathlib.Core.Path.{_≡_, refl, sym, ap, ap₂, subst, _∙_}
-use mathlib.Core.Bool.{Bool, true, false, not, cond}
-use mathlib.Core.Logic.{_⊎_, inl, inr, ⊎-elim}
-use Prim.Native.Nat.{ℕ, suc, _+_, _-_, _*_, _/_, _%_, _^_, _<_, _≤_}
+use mathlib.Core.Path.{_≡_, sym, ap, subst, _∙_}
+use mathlib.Core.Bool.{Bool, true, not, cond}
+use mathlib.Core.Logic.{⊎-elim}
+use Prim.Native.Nat.{ℕ, _-_, _/_, _%_, _^_, _<_, _≤_}
 use native.Mathlib.Nat.{mul-le-mul-right, lt-of-lt-of-le}
 use native.Mathlib.Decide.{ℕ-discrete}
 use native.Mathlib.Omega.{arith}
 use lib.Dec.{eqb}
-use lib.ListN.{length, take, drop, getD}
+use lib.ListN.{length, drop, getD}
 use lib.Seq.{getD-take, getD-drop, ext-getD}
-use Rattle.laws.specs.Word.{allOnes, isSet}
+use Rattle.laws.specs.Word.{isSet}
 use Rattle.laws.proofs.BitLaws.{lt-or-le}
 use Rattle.laws.proofs.SumLaws.{sum-same}
 use Rattle.size_classes.specs.SlotSizes.{slotSize}
@@ -20,7 +20,6 @@ use Rattle.occupancy.specs.Occupied.{occupancy, wordOf}
 use Rattle.occupancy.specs.Right.{isTaken, Right, Pending}
 use Rattle.tables.specs.Shape.{Shape, classes, classHeap, bitmapCells, recordCells}
 use Rattle.tables.specs.Cells.{Tables, bitmapCell, bitmapWord, localSummary, localWord, remoteSummary, remoteWord, classAt, ownerAt, occupiedAt}
-use Rattle.tables.specs.Stated.{Stated}
 use Rattle.tables.proofs.CellLaws.{bitmap-next, local-in, remote-in, summaries-in}
 use Rattle.tables.proofs.StatedLaws.{stated-passed}
 use Rattle.span.specs.Span.{loaded, localWords, pendingWords}

@@ -1,13 +1,13 @@
 -- An occupancy stored in a used span: what stands in the span's cells then, when the table stays filled, and the states of its blocks. Assumes
 -- nothing.
 use mathlib.Core.Path.{_≡_, refl, sym, ap, subst, _∙_}
-use mathlib.Core.Bool.{Bool, true, false}
+use mathlib.Core.Bool.{true}
 use mathlib.Core.List.{List, _∷_}
 use Prim.Native.Nat.{ℕ, suc, _+_, _/_, _%_, _<_, _≤_}
 use native.Mathlib.Decide.{ℕ-discrete}
 use native.Mathlib.Omega.{arith}
 use lib.ListN.{length, length-set}
-use lib.Seq.{paste, ext-getD}
+use lib.Seq.{ext-getD}
 use Rattle.laws.specs.Word.{isSet}
 use Rattle.size_classes.specs.Slots.{mostSlots}
 use Rattle.occupancy.specs.declared.Occupancy.{Occupancy}
@@ -15,7 +15,7 @@ use Rattle.occupancy.specs.Occupied.{occupancy, wordOf}
 use Rattle.occupancy.specs.Right.{isTaken, Right}
 use Rattle.tables.specs.Shape.{Shape, bitmapCells}
 use Rattle.tables.specs.Cells.{Tables, bitmapCell, bitmapWord, localSummary, localWord, remoteSummary, remoteWord, occupiedField, occupiedAt}
-use Rattle.tables.proofs.CellLaws.{local-in, remote-in, summaries-in}
+use Rattle.tables.proofs.CellLaws.{remote-in, summaries-in}
 use Rattle.span.specs.Span.{loaded, localWords, stored}
 use Rattle.span.specs.declared.BlockState.{BlockState}
 use Rattle.span.specs.State.{isOccupied, isPending, stateOf}
@@ -23,9 +23,9 @@ use Rattle.span.specs.Room.{WordCells, SpanCells}
 use Rattle.span.proofs.CellsThere.{local-there, part-long}
 use Rattle.sound.specs.Sound.{homeOf}
 use Rattle.sound.specs.Filled.{Filled}
-use Rattle.filled_spans.proofs.SpanValues.{slot-place, loaded-word, taken-occupied, filled-cells, RemoteRight}
+use Rattle.filled_spans.proofs.SpanValues.{slot-place, loaded-word, taken-occupied, filled-cells}
 use Rattle.filled_spans.proofs.BlockStates.{isKept, Becomes}
-use Rattle.filled_spans.proofs.FilledKept.{OnlySpan, OnlyOccupancy, other-state}
+use Rattle.filled_spans.proofs.FilledKept.{OnlyOccupancy, other-state}
 use Rattle.filled_spans.proofs.OwnSpan.{kept-means, own-state, filled-own}
 use Rattle.filled_spans.proofs.SpanStores.{words-in, words-other, words-length, field-in-place, field-other}
 
@@ -64,6 +64,7 @@ module _ (t : Tables) (s : ℕ) (cells : SpanCells (t .bits) (t .spans) s) (o : 
   pub stored-remote : (i : ℕ) → remoteSummary ≤ i → i < bitmapCells → bitmapWord (stored t s o) s i ≡ bitmapWord t s i
   stored-remote i l h = stored-other s i h (λ e. l)
 
+  -- A slot is pending as before.
   pub stored-pending : (q : ℕ) → q < mostSlots → isPending (stored t s o) s q ≡ isPending t s q
   stored-pending q h =
       ap (λ (z : ℕ). isSet z (q % 64)) (stored-remote (remoteWord (q / 64)) (omega arith) (remote-in (slot-place h)))
@@ -87,6 +88,7 @@ module _ (t : Tables) (s : ℕ) (cells : SpanCells (t .bits) (t .spans) s) (o : 
         own = λ k h n. field-other (t .spans) s (cells .fields) occupiedField (o .count) (omega arith) s k h (λ e z. n z);
       }
 
+  -- The count is the stored one.
   pub stored-count : occupiedAt (stored t s o) s ≡ o .count
   unfolding stored
   stored-count = field-in-place (t .spans) s (cells .fields) occupiedField (o .count) (omega arith)
@@ -102,10 +104,12 @@ module _ (t : Tables) (s : ℕ) (cells : SpanCells (t .bits) (t .spans) s) (o : 
       (λ i l. let h : i < 64 = omega arith in loaded-word u s i h ∙ stored-word i h) in
       λ i. occupancy (stored-summary i) (words i) (stored-count i)
 
+  -- A slot is occupied where it is taken in what was stored.
   pub stored-occupied : (q : ℕ) → q < mostSlots → isOccupied (stored t s o) s q ≡ isTaken o q
   stored-occupied q h = ap (λ (z : ℕ). isSet z (q % 64)) (stored-word (q / 64) (slot-place h))
 
 module _ (g : Shape) (t : Tables) (f : Filled g t) (s : ℕ) (h : s < t .used) (o : Occupancy) (r : Right (homeOf g t s .slots) o) where
+  -- the span's cells are there
   abbrev cells : SpanCells (t .bits) (t .spans) s
   cells = filled-cells g t f s h
 
