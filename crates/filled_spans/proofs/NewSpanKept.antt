@@ -205,7 +205,7 @@ module _ (g : Shape) (t : Tables) (f : Filled g t) (unused : t .used < g .spans)
       }
 
   -- Its occupancy is a fresh one.
-  pub new-loaded : loaded (newSpan t (classHeap g h c)) (t .used) ≡ freshOf ((classHeap g h c) .slots)
+  pub new-loaded : loaded (newSpan t (classHeap g h c)) (t .used) ≡ freshOf (classHeap g h c .slots)
   new-loaded = new-fresh t (classHeap g h c) (class-within g h c) cells
 
   -- The table stays filled.
@@ -221,7 +221,7 @@ module _ (g : Shape) (t : Tables) (f : Filled g t) (unused : t .used < g .spans)
         span =
             span-filled g u (t .used) (unfold classHeap in rw (new-class t (classHeap g h c) w cells) hc) (unfold classHeap in rw (new-owner t (classHeap g h c) w cells) hh)
             (subst (λ (k : ClassHeap). Right (k .slots) (loaded u (t .used))) (sym new-home)
-            (subst (Right ((classHeap g h c) .slots)) (sym (new-fresh t (classHeap g h c) w cells)) (fresh-right ((classHeap g h c) .slots) w)))
+            (subst (Right (classHeap g h c .slots)) (sym (new-fresh t (classHeap g h c) w cells)) (fresh-right (classHeap g h c .slots) w)))
             (none-right u (t .used) (homeOf g u (t .used) .slots) (new-remote t (classHeap g h c) w cells));
         previous = omega (arith, new-previous t (classHeap g h c) w cells);
         next = omega (arith, new-next t (classHeap g h c) w cells);
@@ -230,7 +230,7 @@ module _ (g : Shape) (t : Tables) (f : Filled g t) (unused : t .used < g .spans)
       })
 
   -- Every slot of the new span is free, and every block of another span is as before.
-  pub new-states : NewBlocks g t (newSpan t (classHeap g h c)) ((classHeap g h c) .slots)
+  pub new-states : NewBlocks g t (newSpan t (classHeap g h c)) (classHeap g h c .slots)
   new-states =
       let w = class-within g h c in
       record {
@@ -239,6 +239,6 @@ module _ (g : Shape) (t : Tables) (f : Filled g t) (unused : t .used < g .spans)
             means-free g (newSpan t (classHeap g h c)) (t .used) q
             (sym (taken-occupied (newSpan t (classHeap g h c)) (t .used) q (lt-of-lt-of-le l (class-most g h c)))
             ∙ ap (λ o. isTaken o q) (new-fresh t (classHeap g h c) w cells)
-            ∙ fresh-free ((classHeap g h c) .slots) q w l);
+            ∙ fresh-free (classHeap g h c .slots) q w l);
         others = λ r q l n. other-state g t (newSpan t (classHeap g h c)) (t .used) (new-cells t (classHeap g h c) w cells) r n q l;
       }
