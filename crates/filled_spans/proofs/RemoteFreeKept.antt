@@ -23,7 +23,7 @@ use Rattle.span.specs.Room.{WordCells}
 use Rattle.span.proofs.CellsThere.{word-there}
 use Rattle.sound.specs.Sound.{homeOf}
 use Rattle.sound.specs.Filled.{Filled}
-use Rattle.filled_spans.proofs.SpanValues.{slot-place, home-most, same-loaded, filled-cells, filled-right, RemoteRight}
+use Rattle.filled_spans.proofs.SpanValues.{slot-place, home-most, same-loaded, filled-cells, filled-right, RemoteRight, filled-remote}
 use Rattle.filled_spans.proofs.BlockStates.{isKept, Becomes, out-means, means-pending}
 use Rattle.filled_spans.proofs.FilledKept.{OnlyOccupancy, other-state}
 use Rattle.filled_spans.proofs.OwnSpan.{kept-means, own-state, filled-own}
@@ -179,11 +179,10 @@ module _ (g : Shape) (t : Tables) (f : Filled g t) (s : ℕ) (h : s < t .used) (
   pub remote-kept : Filled g (remoteFree t s q)
   remote-kept =
       let was = out-means g t s q out in
-      let c = f .spans s h in
       filled-own g t (remoteFree t s q) s (remote-only t s cells q below) f h
       (subst (Right (homeOf g t s .slots)) (sym (remote-loaded t s cells q below)) (filled-right g t f s h))
       (remote-right t s cells q below (homeOf g t s .slots) inside (was .occupied)
-      (record { word = λ i l m. c .word i m; summary = c .remote; held = c .pending }))
+      (filled-remote g t f s h))
       (λ p l e.
       let k = kept-means g t f s h p l e in (
         remote-occupied t s cells q below p l ∙ k .0,
