@@ -1,3 +1,4 @@
 pub mod FreshSound
 pub mod SoundFilled
+pub mod SoundTested
 pub mod UnusedCells
