@@ -1,0 +1,171 @@
+-- Slots back to their spans, a call at a time; and what that keeps. Assumes nothing.
+use mathlib.Core.Path.{_≡_, refl, sym, ap, ap₂, _∙_}
+use mathlib.Core.Bool.{Bool, true, false, cond}
+use mathlib.Core.List.{List}
+use Prim.Native.Nat.{ℕ, zero, suc, _+_, _-_, _<_, _≤_}
+use native.Mathlib.Numerals.{sub-one}
+use native.Mathlib.Omega.{arith}
+use borrow.Author.Tests.{lt-ltb, le-ltb, ltb-true}
+use lib.ListN.{length}
+use lib.Dec.{ltb}
+use Rattle.laws.proofs.CondLaws.{cond-both}
+use Rattle.size_classes.specs.Slots.{mostSlots}
+use Rattle.tables.specs.declared.ClassHeap.{ClassHeap}
+use Rattle.tables.specs.Shape.{Shape, classHeap}
+use Rattle.tables.specs.Cells.{Tables, tables, occupiedAt, partialList, fullList, countAt, entrySpan, entrySlot}
+use Rattle.magazine.specs.Room.{Room}
+use Rattle.magazine.specs.Magazine.{topEntry, popEntry}
+use Rattle.span.specs.Span.{isFull, isEmpty, deallocSlot}
+use Rattle.class_heap.specs.Steps.{refile, giveBack, flushOne, flush}
+use Rattle.sound.specs.Sound.{homeOf}
+use Rattle.sound.specs.Filled.{Filled}
+use Rattle.filled_magazines.proofs.FilledFacts.{filled-room, belongs-home}
+use Rattle.filled_magazines.proofs.MagazineSteps.{Loose, pop-entry-filled, popped-loose}
+use Rattle.filled_spans.proofs.SpanValues.{home-most}
+use Rattle.filled_spans.proofs.ReleaseKept.{release-only, release-kept, release-occupied}
+use Rattle.placing.specs.Working.{Working}
+use Rattle.placing.proofs.PlacingKept.{working-on, working-as, refile-working, refile-used}
+use Rattle.flushing.specs.Returnable.{Returnable}
+
+-- ---- one slot
+
+module _ {n : ℕ} {k : ClassHeap} {t : Tables} {s q : ℕ} (r : Returnable n k t s q) where
+  pub slot-within : q < mostSlots
+  slot-within = omega (arith, r .inside, home-most (r .working .shape) t s)
+
+  pub some-occupied : 0 < occupiedAt t s
+  some-occupied = omega (arith, release-occupied (r .working .shape) t (r .working .filled) s (r .used) q (r .inside) (r .out))
+
+  pub dealloc-working : Working n k (deallocSlot t s q)
+  dealloc-working = working-on (r .working) (release-kept (r .working .shape) t (r .working .filled) s (r .used) q (r .inside) (r .out))
+
+  pub dealloc-used : deallocSlot t s q .used ≡ t .used
+  dealloc-used = release-only (r .working .shape) t (r .working .filled) s (r .used) q (r .inside) (r .out) .used
+
+  used-then : s < deallocSlot t s q .used
+  used-then = rw dealloc-used (r .used)
+
+  pub give-back-working : Working n k (giveBack t k s q)
+  unfolding giveBack
+  give-back-working =
+      let u = deallocSlot t s q in
+      cond-both (Working n k) (isFull t k s) (refile u k fullList s) (cond (isEmpty u s) (refile u k partialList s) u)
+      (λ e. refile-working dealloc-working (omega arith) used-then)
+      (λ e.
+      cond-both (Working n k) (isEmpty u s) (refile u k partialList s) u (λ d. refile-working dealloc-working (omega arith) used-then)
+      (λ d. dealloc-working))
+
+-- ---- by its two tests
+
+module _ (t t₁ t′ : Tables) (k : ClassHeap) (s q : ℕ) (p : t₁ ≡ deallocSlot t s q) where
+  pub back-full : isFull t k s ≡ true → t′ ≡ refile t₁ k fullList s → t′ ≡ giveBack t k s q
+  unfolding giveBack
+  back-full h e = rw (h, ← p) e
+
+  pub back-empty : isFull t k s ≡ false → isEmpty t₁ s ≡ true → t′ ≡ refile t₁ k partialList s → t′ ≡ giveBack t k s q
+  unfolding giveBack
+  back-empty h l e = rw (h, ← p, l) e
+
+  pub back-partial : isFull t k s ≡ false → isEmpty t₁ s ≡ false → t′ ≡ t₁ → t′ ≡ giveBack t k s q
+  unfolding giveBack
+  back-partial h l e = rw (h, ← p, l) e
+
+-- ---- the top entry
+
+-- An entry's slot is one of its span.
+loose-inside :
+    (g : Shape) (t : Tables) (k : ClassHeap) (h c : ℕ) → k ≡ classHeap g h c → (e : ℕ) → Loose g t k e →
+    entrySlot e < homeOf g t (entrySpan e) .slots
+loose-inside g t k h c named e m =
+    let z : homeOf g t (entrySpan e) ≡ k = belongs-home g t h c (entrySpan e) (rw (named) at m .belongs) ∙ sym named in
+    rw z (m .inRange)
+
+module _ {n : ℕ} {k : ClassHeap} {t : Tables} (w : Working n k t) where
+  pub working-room : Room (t .entries) (t .heads) k
+  working-room = rw (w .named) (filled-room (w .filled) (w .inHeaps) (w .inClasses))
+
+  module _ (some : 0 < countAt t k) where
+    popped-filled : Filled (w .shape) (popEntry t k)
+    popped-filled = rw (w .named) (pop-entry-filled (w .filled) (w .inHeaps) (w .inClasses) (rw (w .named) at some))
+
+    top-loose : Loose (w .shape) (popEntry t k) k (topEntry t k)
+    top-loose = rw (w .named) (popped-loose (w .filled) (w .inHeaps) (w .inClasses) (rw (w .named) at some))
+
+    -- its block may go back to its span
+    pub top-returnable : Returnable n k (popEntry t k) (entrySpan (topEntry t k)) (entrySlot (topEntry t k))
+    top-returnable =
+        record {
+          working = working-on w popped-filled;
+          used = top-loose .belongs .used;
+          inside = loose-inside (w .shape) (popEntry t k) k (w .heap) (w .class) (w .named) (topEntry t k) top-loose;
+          out = top-loose .out;
+        }
+
+    pub popped-returnable :
+        (t₁ : Tables) (e s q : ℕ) → t₁ ≡ popEntry t k → e ≡ topEntry t k → s ≡ entrySpan e → q ≡ entrySlot e → Returnable n k t₁ s q
+    popped-returnable t₁ e s q p o a b = rw (p, a, b, o) top-returnable
+
+    pub flush-one-working : Working n k (flushOne t k)
+    unfolding flushOne
+    flush-one-working = give-back-working top-returnable
+
+pub flush-one-made :
+    (t t₁ t′ : Tables) (k : ClassHeap) (e s q : ℕ) → e ≡ topEntry t k → s ≡ entrySpan e → q ≡ entrySlot e → t₁ ≡ popEntry t k →
+    t′ ≡ giveBack t₁ k s q → t′ ≡ flushOne t k
+unfolding flushOne
+flush-one-made t t₁ t′ k e s q o a b p z = rw (← p, ← o, ← a, ← b) z
+
+-- ---- the loop, by the count and what is left
+
+pub flush-low : (i : ℕ) (t : Tables) (k : ClassHeap) → countAt t k ≤ k .low → flush i t k ≡ t
+unfolding flush
+flush-low zero t k h = refl
+flush-low (suc i) t k h = rw (le-ltb (k .low) (countAt t k) h)
+
+pub flush-out : (i : ℕ) (t : Tables) (k : ClassHeap) → i ≤ 0 → flush i t k ≡ t
+unfolding flush
+flush-out zero t k h = refl
+flush-out (suc i) t k h = absurd (omega arith)
+
+pub flush-turn : (i : ℕ) (t : Tables) (k : ClassHeap) → 0 < i → k .low < countAt t k → flush i t k ≡ flush (i - 1) (flushOne t k) k
+unfolding flush
+flush-turn zero t k h l = absurd (omega arith)
+flush-turn (suc i) t k h l = simp (lt-ltb (k .low) (countAt t k) l, sub-one)
+
+-- Every flush keeps a working table working.
+pub flush-working : (i : ℕ) {n : ℕ} {k : ClassHeap} {t : Tables} → Working n k t → Working n k (flush i t k)
+unfolding flush
+flush-working zero w = w
+flush-working (suc i) {n} {k} {t} w =
+    cond-both (Working n k) (ltb (k .low) (countAt t k)) (flush i (flushOne t k) k) t
+    (λ e. flush-working i (flush-one-working w (omega (arith, ltb-true (k .low) (countAt t k) e)))) (λ e. w)
+
+pub record Flushing (k : ClassHeap) (b₀ sp₀ e hd₀ b sp hd : List ℕ) (left : ℕ) : Type 0 where
+  pub limit : ℕ
+  pub used : ℕ
+  pub working : Working limit k (tables b sp e hd used)
+  pub bitsLength : length b ≡ length b₀
+  pub spansLength : length sp ≡ length sp₀
+  pub headsLength : length hd ≡ length hd₀
+  pub same : (u : ℕ) → flush left (tables b sp e hd u) k ≡ flush (k .capacity) (tables b₀ sp₀ e hd₀ u) k
+
+pub flush-start : (k : ClassHeap) (b sp e hd : List ℕ) (n u : ℕ) → Working n k (tables b sp e hd u) → Flushing k b sp e hd b sp hd (k .capacity)
+flush-start k b sp e hd n u w =
+    record { limit = n; used = u; working = w; bitsLength = refl; spansLength = refl; headsLength = refl; same = λ u. refl }
+
+module _ (k : ClassHeap) (b₀ sp₀ e hd₀ b sp hd b′ sp′ hd′ : List ℕ) (left : ℕ) (w : Flushing k b₀ sp₀ e hd₀ b sp hd left) where
+  pub flush-again :
+      0 < left → k .low < countAt (tables b sp e hd (w .used)) k →
+      length b′ ≡ length b → length sp′ ≡ length sp → length hd′ ≡ length hd →
+      ((u : ℕ) → tables b′ sp′ e hd′ u ≡ flushOne (tables b sp e hd u) k) →
+      Flushing k b₀ sp₀ e hd₀ b′ sp′ hd′ (left - 1)
+  flush-again h l lb ls lh z =
+      record {
+        limit = w .limit;
+        used = w .used;
+        working = working-as (z (w .used)) (flush-one-working (w .working) (omega (arith, l)));
+        bitsLength = lb ∙ w .bitsLength;
+        spansLength = ls ∙ w .spansLength;
+        headsLength = lh ∙ w .headsLength;
+        same = λ u. rw (z u) (sym (flush-turn left (tables b sp e hd u) k h l) ∙ w .same u);
+      }

@@ -1,0 +1,2 @@
+pub mod PlacingMade
+pub mod PlacingKept
