@@ -1,0 +1,3 @@
+pub mod AppendLaws
+pub mod ClassJoined
+pub mod RowsJoined

@@ -1,0 +1,4 @@
+pub mod WordTests
+pub mod TestLaws
+pub mod SpanWords
+pub mod SpanTurns
