@@ -94,6 +94,7 @@ module _ {n : ℕ} {k : ClassHeap} {t : Tables} (w : Working n k t) where
         inClasses = w .inClasses;
         named = w .named;
         limited = w .limited;
+        few = w .few;
         filled = o;
       }
 

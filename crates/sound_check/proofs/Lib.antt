@@ -1,3 +1,5 @@
 pub mod AppendLaws
 pub mod ClassJoined
 pub mod RowsJoined
+pub mod RowTurns
+pub mod SoundParts

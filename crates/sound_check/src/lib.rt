@@ -1,1 +1,69 @@
-// The check of a whole table.
+// The check of a whole table: every used span, and the lists and the magazine of every class of every heap.
+ghost use mathlib.Core.Path.{_≡_};
+ghost use mathlib.Core.List.{List};
+ghost use Prim.Native.Nat.{ℕ, _<_, _≤_};
+ghost use Rattle.laws.specs.Choice.{Says};
+ghost use Rattle.size_classes.specs.SlotSizes.{Admissible};
+ghost use Rattle.tables.specs.Shape.{shape, mostHeaps};
+ghost use Rattle.tables.specs.Cells.{tables as table};
+ghost use Rattle.tables.specs.Stated.{RightLengths};
+ghost use Rattle.sound.specs.Decided.{isSound};
+ghost use Rattle.sound_check.specs.Joined.{RowCells, RowsSound};
+
+// Whether the lists and the magazine of every class of every heap are right, and the lists hold as many spans as are used.
+fn rows_sound(
+    sizes: &[u64],
+    bits: &[u64],
+    spans: &[u64],
+    entries: &[u64],
+    heads: &[u64],
+    heaps: u64,
+    used: u64,
+) -> bool
+    requires { ⌜ Admissible (now sizes) ⌝ }
+    requires { ⌜ RowCells (now sizes) (now bits) (now spans) (now entries) (now heads) heaps used ⌝ }
+    ensures { λ r. ⌜ ((most n : ℕ) → Says r (RowsSound (shape (now (sizes .entry)) most heaps n) (table (now (bits .entry)) (now (spans .entry)) (now (entries .entry)) (now (heads .entry)) used))) ⌝ }
+{
+    let classes = sizes.len() as u64;
+    let rows = heaps * classes;
+    let mut total: u64 = 0;
+    let mut r: u64 = 0;
+    while r < rows {
+        let k = tables::class_heap(sizes, r / classes, r % classes);
+        let met = sound_lists::class_met(spans, heads, k, used);
+        if met > 4 * used {
+            return false;
+        }
+        if !sound_magazines::magazine_sound(bits, spans, entries, heads, k, used) {
+            return false;
+        }
+        total += met;
+        r += 1;
+    }
+    total == used
+}
+
+// Whether the table is sound.
+pub fn is_sound(
+    sizes: &[u64],
+    bits: &[u64],
+    spans: &[u64],
+    entries: &[u64],
+    heads: &[u64],
+    heaps: u64,
+    limit: u64,
+    used: u64,
+) -> bool
+    requires { ⌜ Admissible (now sizes) ⌝ }
+    requires { ⌜ heaps ≤ mostHeaps ⌝ }
+    requires { ⌜ RightLengths (shape (now sizes) limit heaps limit) (table (now bits) (now spans) (now entries) (now heads) used) ⌝ }
+    ensures { λ r. ⌜ ((most : ℕ) → r ≡ isSound (shape (now (sizes .entry)) most heaps limit) (table (now (bits .entry)) (now (spans .entry)) (now (entries .entry)) (now (heads .entry)) used)) ⌝ }
+{
+    if used > limit {
+        return false;
+    }
+    if !sound_spans::spans_filled(sizes, bits, spans, heaps, used) {
+        return false;
+    }
+    rows_sound(sizes, bits, spans, entries, heads, heaps, used)
+}

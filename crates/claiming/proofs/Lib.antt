@@ -1,0 +1,2 @@
+pub mod BitsListed
+pub mod ClaimingLaws

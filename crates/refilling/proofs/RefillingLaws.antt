@@ -1,0 +1,147 @@
+-- The refill, a turn at a time. Assumes nothing.
+use mathlib.Core.Path.{_≡_, refl, sym, ap, _∙_}
+use mathlib.Core.Bool.{Bool, true, false, cond}
+use mathlib.Core.List.{List}
+use Prim.Native.Nat.{ℕ, zero, suc, _+_, _-_, _<_, _≤_}
+use native.Mathlib.Numerals.{sub-one}
+use native.Mathlib.Omega.{arith}
+use borrow.Author.Tests.{eq-eqb, ne-eqb, lt-ltb, le-ltb}
+use lib.ListN.{length, getD}
+use lib.Dec.{eqb, ltb}
+use Rattle.magazine_layout.specs.Layout.{mostCapacity}
+use Rattle.tables.specs.declared.ClassHeap.{ClassHeap}
+use Rattle.tables.specs.Cells.{Tables, tables, headAt, partialList, countAt}
+use Rattle.class_heap.specs.Steps.{replenish, claimFront, refill, refilled, Refilled}
+use Rattle.filled_magazines.proofs.FilledFacts.{capacity-within}
+use Rattle.placing.specs.Working.{Working}
+use Rattle.placing.proofs.PlacingKept.{working-as}
+use Rattle.replenishing.proofs.ReplenishingLaws.{replenish-working}
+use Rattle.claiming.specs.Claimable.{Own, Fronted}
+use Rattle.claiming.proofs.ClaimingLaws.{claim-front-working}
+use Rattle.refilling.specs.Fronts.{FrontOwn, Fronts}
+
+-- ---- the refill, by its two tests and what is left
+
+pub refill-out : (n limit : ℕ) (t : Tables) (k : ClassHeap) (ws : List ℕ) (i : ℕ) → n ≤ 0 → refill n limit t k ws i ≡ refilled t i
+unfolding refill
+refill-out zero limit t k ws i h = refl
+refill-out (suc n) limit t k ws i h = absurd (omega arith)
+
+pub refill-full :
+    (n limit : ℕ) (t : Tables) (k : ClassHeap) (ws : List ℕ) (i : ℕ) → k .capacity ≤ countAt t k → refill n limit t k ws i ≡ refilled t i
+unfolding refill
+refill-full zero limit t k ws i h = refl
+refill-full (suc n) limit t k ws i h = rw (le-ltb (countAt t k) (k .capacity) h)
+
+pub refill-dry :
+    (n limit : ℕ) (t : Tables) (k : ClassHeap) (ws : List ℕ) (i : ℕ) → countAt t k < k .capacity → 0 < n →
+    headAt (replenish limit t k) k partialList ≡ 0 → refill n limit t k ws i ≡ refilled (replenish limit t k) i
+unfolding refill
+refill-dry zero limit t k ws i room h e = absurd (omega arith)
+refill-dry (suc n) limit t k ws i room h e =
+    rw (lt-ltb (countAt t k) (k .capacity) room, eq-eqb (headAt (replenish limit t k) k partialList) 0 e)
+
+pub refill-turn :
+    (n limit : ℕ) (t : Tables) (k : ClassHeap) (ws : List ℕ) (i : ℕ) → countAt t k < k .capacity → 0 < n →
+    (headAt (replenish limit t k) k partialList ≡ 0 → ⊥) →
+    refill n limit t k ws i ≡ refill (n - 1) limit (claimFront (replenish limit t k) k (getD ws i 0)) k ws (i + 1)
+unfolding refill
+refill-turn zero limit t k ws i room h e = absurd (omega arith)
+refill-turn (suc n) limit t k ws i room h e =
+    simp (lt-ltb (countAt t k) (k .capacity) room, ne-eqb (headAt (replenish limit t k) k partialList) 0 e, sub-one)
+
+-- ---- the fronts that the turns find
+
+pub fronts-here :
+    (n limit : ℕ) (t : Tables) (k : ClassHeap) (ws : List ℕ) (i : ℕ) → 0 < n → Fronts n limit t k ws i → countAt t k < k .capacity →
+    FrontOwn k (replenish limit t k)
+unfolding Fronts
+fronts-here zero limit t k ws i h f l = absurd (omega arith)
+fronts-here (suc n) limit t k ws i h f l = f l .0
+
+pub fronts-next :
+    (n limit : ℕ) (t : Tables) (k : ClassHeap) (ws : List ℕ) (i : ℕ) → 0 < n → Fronts n limit t k ws i → countAt t k < k .capacity →
+    Fronts (n - 1) limit (claimFront (replenish limit t k) k (getD ws i 0)) k ws (i + 1)
+unfolding Fronts
+fronts-next zero limit t k ws i h f l = absurd (omega arith)
+fronts-next (suc n) limit t k ws i h f l = simp sub-one (f l .1)
+
+pub fronted :
+    {limit : ℕ} {t : Tables} {k : ClassHeap} → Working limit k t → FrontOwn k (replenish limit t k) →
+    (headAt (replenish limit t k) k partialList ≡ 0 → ⊥) → Fronted limit k (replenish limit t k)
+fronted {limit} {t} {k} w f n =
+    let some : 0 < headAt (replenish limit t k) k partialList = omega (arith, n) in
+    record { some = some; own = record { working = replenish-working w; belongs = f .belongs some } }
+
+-- A magazine's capacity is small.
+pub capacity-few : {limit : ℕ} {k : ClassHeap} {t : Tables} → Working limit k t → k .capacity ≤ 64
+unfolding mostCapacity
+capacity-few w = rw (w .named) (capacity-within (w .shape) (w .heap) (w .class))
+
+-- ---- the loop
+
+pub record Refilling (limit : ℕ) (k : ClassHeap) (ws : List ℕ) (t₀ t : Tables) (i left : ℕ) : Type 0 where
+  pub working : Working limit k t
+  pub fronts : Fronts left limit t k ws i
+  pub taken : i + left ≡ k .capacity
+  pub long : k .capacity ≤ length ws
+  pub bitsLength : length (t .bits) ≡ length (t₀ .bits)
+  pub spansLength : length (t .spans) ≡ length (t₀ .spans)
+  pub entriesLength : length (t .entries) ≡ length (t₀ .entries)
+  pub headsLength : length (t .heads) ≡ length (t₀ .heads)
+  pub same : refill left limit t k ws i ≡ refill (k .capacity) limit t₀ k ws 0
+
+pub refill-start :
+    (limit : ℕ) (k : ClassHeap) (ws : List ℕ) (t : Tables) → Working limit k t → Fronts (k .capacity) limit t k ws 0 → k .capacity ≤ length ws →
+    Refilling limit k ws t t 0 (k .capacity)
+refill-start limit k ws t w f l =
+    record {
+      working = w;
+      fronts = f;
+      taken = omega arith;
+      long = l;
+      bitsLength = refl;
+      spansLength = refl;
+      entriesLength = refl;
+      headsLength = refl;
+      same = refl;
+    }
+
+module _ (limit : ℕ) (k : ClassHeap) (ws : List ℕ) (t₀ t : Tables) (i left : ℕ) (r : Refilling limit k ws t₀ t i left) (more : 0 < left) where
+  module _ (room : countAt t k < k .capacity) (t₁ : Tables) (p : t₁ ≡ replenish limit t k) where
+    pub replenished-working : Working limit k t₁
+    replenished-working = working-as p (replenish-working (r .working))
+
+    -- No span could be had.
+    pub refill-ends : headAt t₁ k partialList ≡ 0 → refilled t₁ i ≡ refill (k .capacity) limit t₀ k ws 0
+    refill-ends e =
+        let z : headAt (replenish limit t k) k partialList ≡ 0 = rw (← p) e in
+        ap (λ (u : Tables). refilled u i) p ∙ sym (refill-dry left limit t k ws i room more z) ∙ r .same
+
+    module _ (n : headAt t₁ k partialList ≡ 0 → ⊥) where
+      then : headAt (replenish limit t k) k partialList ≡ 0 → ⊥
+      then = rw (← p) n
+
+      front : Fronted limit k (replenish limit t k)
+      front = fronted (r .working) (fronts-here left limit t k ws i more (r .fronts) room) then
+
+      pub refill-fronted : Fronted limit k t₁
+      refill-fronted = rw p front
+
+      pub refill-again :
+          (t₂ : Tables) (w : ℕ) → w ≡ getD ws i 0 → t₂ ≡ claimFront t₁ k w → length (t₂ .bits) ≡ length (t .bits) →
+          length (t₂ .spans) ≡ length (t .spans) → length (t₂ .entries) ≡ length (t .entries) → length (t₂ .heads) ≡ length (t .heads) →
+          Refilling limit k ws t₀ t₂ (i + 1) (left - 1)
+      refill-again t₂ w x q lb ls le lh =
+          let c : t₂ ≡ claimFront (replenish limit t k) k (getD ws i 0) = rw (← p, ← x) q in
+          record {
+            working = working-as c (claim-front-working front (getD ws i 0));
+            fronts = rw c (fronts-next left limit t k ws i more (r .fronts) room);
+            taken = omega (arith, r .taken);
+            long = r .long;
+            bitsLength = lb ∙ r .bitsLength;
+            spansLength = ls ∙ r .spansLength;
+            entriesLength = le ∙ r .entriesLength;
+            headsLength = lh ∙ r .headsLength;
+            same = rw c (sym (refill-turn left limit t k ws i room more then) ∙ r .same);
+          }
