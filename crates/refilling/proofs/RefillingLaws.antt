@@ -12,13 +12,14 @@ use Rattle.magazine_layout.specs.Layout.{mostCapacity}
 use Rattle.tables.specs.declared.ClassHeap.{ClassHeap}
 use Rattle.tables.specs.Cells.{Tables, tables, headAt, partialList, countAt}
 use Rattle.class_heap.specs.Steps.{replenish, claimFront, refill, refilled, Refilled}
+use Rattle.sound.specs.Sound.{Belongs}
 use Rattle.filled_magazines.proofs.FilledFacts.{capacity-within}
 use Rattle.placing.specs.Working.{Working}
 use Rattle.placing.proofs.PlacingKept.{working-as}
 use Rattle.replenishing.proofs.ReplenishingLaws.{replenish-working}
 use Rattle.claiming.specs.Claimable.{Own, Fronted}
 use Rattle.claiming.proofs.ClaimingLaws.{claim-front-working}
-use Rattle.refilling.specs.Fronts.{FrontOwn, Fronts}
+use Rattle.refilling.specs.Fronts.{Fronts}
 
 -- ---- the refill, by its two tests and what is left
 
@@ -54,24 +55,17 @@ refill-turn (suc n) limit t k ws i room h e =
 
 pub fronts-here :
     (n limit : ℕ) (t : Tables) (k : ClassHeap) (ws : List ℕ) (i : ℕ) → 0 < n → Fronts n limit t k ws i → countAt t k < k .capacity →
-    FrontOwn k (replenish limit t k)
+    0 < headAt (replenish limit t k) k partialList → Belongs (replenish limit t k) k (headAt (replenish limit t k) k partialList - 1)
 unfolding Fronts
-fronts-here zero limit t k ws i h f l = absurd (omega arith)
-fronts-here (suc n) limit t k ws i h f l = f l .0
+fronts-here zero limit t k ws i h f l m = absurd (omega arith)
+fronts-here (suc n) limit t k ws i h f l m = f l m .0
 
 pub fronts-next :
     (n limit : ℕ) (t : Tables) (k : ClassHeap) (ws : List ℕ) (i : ℕ) → 0 < n → Fronts n limit t k ws i → countAt t k < k .capacity →
-    Fronts (n - 1) limit (claimFront (replenish limit t k) k (getD ws i 0)) k ws (i + 1)
+    0 < headAt (replenish limit t k) k partialList → Fronts (n - 1) limit (claimFront (replenish limit t k) k (getD ws i 0)) k ws (i + 1)
 unfolding Fronts
-fronts-next zero limit t k ws i h f l = absurd (omega arith)
-fronts-next (suc n) limit t k ws i h f l = simp sub-one (f l .1)
-
-pub fronted :
-    {limit : ℕ} {t : Tables} {k : ClassHeap} → Working limit k t → FrontOwn k (replenish limit t k) →
-    (headAt (replenish limit t k) k partialList ≡ 0 → ⊥) → Fronted limit k (replenish limit t k)
-fronted {limit} {t} {k} w f n =
-    let some : 0 < headAt (replenish limit t k) k partialList = omega (arith, n) in
-    record { some = some; own = record { working = replenish-working w; belongs = f .belongs some } }
+fronts-next zero limit t k ws i h f l m = absurd (omega arith)
+fronts-next (suc n) limit t k ws i h f l m = simp sub-one (f l m .1)
 
 -- A magazine's capacity is small.
 pub capacity-few : {limit : ℕ} {k : ClassHeap} {t : Tables} → Working limit k t → k .capacity ≤ 64
@@ -122,8 +116,15 @@ module _ (limit : ℕ) (k : ClassHeap) (ws : List ℕ) (t₀ t : Tables) (i left
       then : headAt (replenish limit t k) k partialList ≡ 0 → ⊥
       then = rw (← p) n
 
+      some : 0 < headAt (replenish limit t k) k partialList
+      some = omega (arith, then)
+
       front : Fronted limit k (replenish limit t k)
-      front = fronted (r .working) (fronts-here left limit t k ws i more (r .fronts) room) then
+      front =
+          record {
+            some = some;
+            own = record { working = replenish-working (r .working); belongs = fronts-here left limit t k ws i more (r .fronts) room some };
+          }
 
       pub refill-fronted : Fronted limit k t₁
       refill-fronted = rw p front
@@ -136,7 +137,7 @@ module _ (limit : ℕ) (k : ClassHeap) (ws : List ℕ) (t₀ t : Tables) (i left
           let c : t₂ ≡ claimFront (replenish limit t k) k (getD ws i 0) = rw (← p, ← x) q in
           record {
             working = working-as c (claim-front-working front (getD ws i 0));
-            fronts = rw c (fronts-next left limit t k ws i more (r .fronts) room);
+            fronts = rw c (fronts-next left limit t k ws i more (r .fronts) room some);
             taken = omega (arith, r .taken);
             long = r .long;
             bitsLength = lb ∙ r .bitsLength;

@@ -8,13 +8,11 @@ use Rattle.tables.specs.Cells.{Tables, headAt, partialList, countAt}
 use Rattle.class_heap.specs.Steps.{replenish, claimFront}
 use Rattle.sound.specs.Sound.{Belongs}
 
--- the front of the partial list, if there is one, is of that class and heap
-pub record FrontOwn (k : ClassHeap) (t : Tables) : Type 0 where
-  pub belongs : 0 < headAt t k partialList → Belongs t k (headAt t k partialList - 1)
-
 -- so it is after the replenish of each of n turns
 unfoldable pub Fronts : ℕ → ℕ → Tables → ClassHeap → List ℕ → ℕ → Type 0
 Fronts zero limit t k ws i = zero ≡ zero
 Fronts (suc n) limit t k ws i =
     countAt t k < k .capacity →
-    FrontOwn k (replenish limit t k) × Fronts n limit (claimFront (replenish limit t k) k (getD ws i 0)) k ws (i + 1)
+    0 < headAt (replenish limit t k) k partialList →
+    Belongs (replenish limit t k) k (headAt (replenish limit t k) k partialList - 1)
+    × Fronts n limit (claimFront (replenish limit t k) k (getD ws i 0)) k ws (i + 1)

@@ -3,3 +3,4 @@ pub mod ClassJoined
 pub mod RowsJoined
 pub mod RowTurns
 pub mod SoundParts
+pub mod BaseTurns
