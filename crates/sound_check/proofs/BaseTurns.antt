@@ -1,11 +1,10 @@
 -- The base of a row's magazine: after each row the next one begins where its capacity ends. Assumes nothing.
 use mathlib.Core.Path.{_≡_, sym, ap, ap₂, _∙_}
-use Prim.Native.Nat.{ℕ, suc, _+_, _*_, _/_, _%_, _<_, _≤_}
+use Prim.Native.Nat.{ℕ, _+_, _*_, _/_, _%_, _<_}
 use native.Mathlib.Nat.{mod-lt, div-add-mod'}
 use native.Mathlib.Decide.{decLt}
 use native.Mathlib.Omega.{arith}
 use lib.Arith.{digits-div, digits-mod}
-use lib.ListN.{length}
 use Rattle.size_classes.specs.SlotSizes.{slotSize}
 use Rattle.magazine_layout.specs.Layout.{capacityFor, magazineOffset, entriesPerHeap}
 use Rattle.magazine_layout.proofs.LayoutLaws.{offset-first, offset-next}

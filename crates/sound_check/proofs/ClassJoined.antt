@@ -1,18 +1,18 @@
 -- The lists of one class of one heap joined: no span twice, each of that class and heap, and each counted once. Assumes nothing.
-use mathlib.Core.Path.{_≡_, refl, sym, ap, subst, _∙_}
-use mathlib.Core.List.{List, [], _∷_, _++_}
-use mathlib.Core.Logic.{_⊎_, inl, inr, ⊎-elim}
-use Prim.Native.Nat.{ℕ, _+_, _<_, _≤_}
+use mathlib.Core.Path.{_≡_, sym, _∙_}
+use mathlib.Core.List.{_++_}
+use mathlib.Core.Logic.{_⊎_, ⊎-elim}
+use Prim.Native.Nat.{ℕ, _+_, _<_}
 use native.Mathlib.Omega.{arith}
 use lib.ListN.{length, length-append}
-use Rattle.laws.specs.Links.{All, Chain, times}
+use Rattle.laws.specs.Links.{times}
 use Rattle.laws.specs.Members.{Mem, NoDup}
 use Rattle.laws.proofs.ChainLaws.{chain-nodup, chain-previous}
 use Rattle.laws.proofs.MemberLaws.{all-mem, times-once, times-mem}
 use Rattle.tables.specs.declared.ClassHeap.{ClassHeap}
 use Rattle.tables.specs.Cells.{Tables, occupiedAt, previousAt, nextAt, headAt, partialList, fullList, emptyList, reserve}
 use Rattle.linked_list.specs.Lists.{listOf}
-use Rattle.sound.specs.Sound.{placesIn, Belongs, ListSound, Partial, Full, Empty}
+use Rattle.sound.specs.Sound.{placesIn, Belongs, ListSound}
 use Rattle.sound_lists.specs.Walked.{ClassLists, spansIn}
 use Rattle.sound_check.specs.Joined.{classList}
 use Rattle.sound_check.proofs.AppendLaws.{mem-split, nodup-append, times-append}

@@ -1,23 +1,20 @@
 -- The turns of the check of all rows: the cells of a row are there, one row more is right, and a fault of right rows is none. Assumes nothing.
 use mathlib.Core.Path.{_≡_, refl, sym, ap, subst, _∙_}
-use mathlib.Core.List.{List, []}
-use Prim.Native.Nat.{ℕ, suc, _+_, _*_, _/_, _%_, _^_, _<_, _≤_}
-use native.Mathlib.Nat.{mod-lt, div-lt-iff-lt-mul}
+use mathlib.Core.List.{List}
+use Prim.Native.Nat.{ℕ, _+_, _*_, _/_, _<_, _≤_}
+use native.Mathlib.Nat.{div-lt-iff-lt-mul}
 use native.Mathlib.Omega.{arith}
 use lib.ListN.{length}
 use borrow.Author.Count.{below-more, below-none}
 use Rattle.size_classes.specs.SlotSizes.{slotSize}
-use Rattle.size_classes.specs.Slots.{mostSlots}
 use Rattle.size_classes.proofs.SlotTheorems.{slots-most}
-use Rattle.magazine_layout.specs.Layout.{capacityFor, entriesPerHeap}
-use Rattle.tables.specs.declared.ClassHeap.{ClassHeap}
-use Rattle.tables.specs.Shape.{Shape, shape, classes, headCells, recordCells, classHeap}
-use Rattle.tables.specs.Cells.{Tables, tables, headCell, counter}
+use Rattle.tables.specs.Shape.{Shape, shape, classes, classHeap}
+use Rattle.tables.specs.Cells.{Tables, headCell}
 use Rattle.tables.proofs.CellLaws.{head-in, list-in, row-in}
 use Rattle.tables.proofs.MagazineCells.{base-within}
 use Rattle.sound.specs.Sound.{MagazineSound}
 use Rattle.sound_lists.specs.Walked.{UsedFields, ClassLists, spansIn, ClassCells, Met}
-use Rattle.sound_check.specs.Joined.{classAtRow, joined, RowSound, RowsSound, RowCells, Passed}
+use Rattle.sound_check.specs.Joined.{classAtRow, joined, RowsSound, RowCells, Passed}
 use Rattle.sound_check.proofs.RowsJoined.{joined-more, joined-few}
 
 module _ {sizes bits spans entries heads : List ℕ} {heaps used : ℕ} (o : RowCells sizes bits spans entries heads heaps used) where

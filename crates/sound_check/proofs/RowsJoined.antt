@@ -1,7 +1,6 @@
 -- All rows joined: the lists hold as many spans as are used exactly where each used span stands once in the lists of its class and heap. Assumes nothing.
-use mathlib.Core.Path.{_≡_, refl, sym, ap, ap₂, subst, _∙_}
-use mathlib.Core.List.{List, [], _∷_, _++_}
-use mathlib.Core.Logic.{_⊎_, inl, inr, ⊎-elim}
+use mathlib.Core.Path.{_≡_, sym, ap, ap₂, subst, _∙_}
+use mathlib.Core.Logic.{_⊎_, ⊎-elim}
 use Prim.Native.Nat.{ℕ, zero, suc, _+_, _*_, _/_, _%_, _<_, _≤_}
 use native.Mathlib.Nat.{le-antisymm, eq-or-lt-of-le, le-of-suc-le-suc, div-add-mod'}
 use native.Mathlib.Numerals.{add-one}
@@ -11,7 +10,7 @@ use lib.ListN.{length, length-append}
 use Rattle.laws.specs.Members.{Mem, NoDup}
 use Rattle.laws.proofs.Pigeonhole.{few, many, all-there}
 use Rattle.size_classes.specs.SlotSizes.{slotSize}
-use Rattle.size_classes.specs.Slots.{fewestSlots, slotsPerSpan}
+use Rattle.size_classes.specs.Slots.{fewestSlots}
 use Rattle.size_classes.proofs.SlotTheorems.{slots-fewest}
 use Rattle.tables.specs.declared.ClassHeap.{ClassHeap}
 use Rattle.tables.specs.Shape.{Shape, classes, rowOf, classHeap}

@@ -1,22 +1,20 @@
 -- A table is sound exactly where its used spans and its rows are right; and an answer that says so is the decision. Assumes nothing.
-use mathlib.Core.Path.{_≡_, refl, sym, ap, ap₂, subst, _∙_}
+use mathlib.Core.Path.{_≡_, refl, ap₂, subst, _∙_}
 use mathlib.Core.Bool.{Bool, true, false}
 use Prim.Native.Nat.{ℕ, zero, suc, _+_, _-_, _*_, _/_, _%_, _<_, _≤_}
 use native.Mathlib.Nat.{mod-lt}
-use native.Mathlib.Decide.{ℕ-discrete}
 use native.Mathlib.Omega.{arith}
 use lib.Arith.{digits-div, digits-mod}
 use Rattle.laws.specs.Choice.{Says, isYes}
 use Rattle.laws.specs.Members.{Mem}
-use Rattle.laws.specs.Links.{times}
 use Rattle.laws.proofs.ChainLaws.{chain-first}
 use Rattle.laws.proofs.MemberLaws.{all-mem, times-some}
 use Rattle.tables.specs.declared.ClassHeap.{ClassHeap}
 use Rattle.tables.specs.Shape.{Shape, classes, rowOf, classHeap}
-use Rattle.tables.specs.Cells.{Tables, classAt, ownerAt, previousAt, nextAt, headAt, emptyList, reserve}
+use Rattle.tables.specs.Cells.{Tables, previousAt, nextAt, headAt, emptyList, reserve}
 use Rattle.tables.proofs.CellLaws.{row-in}
 use Rattle.linked_list.specs.Lists.{listOf}
-use Rattle.sound.specs.Sound.{homeOf, placesIn, SpanFilled, Belongs, MagazineSound, ClassSound, Sound}
+use Rattle.sound.specs.Sound.{placesIn, SpanFilled, Belongs, MagazineSound, ClassSound, Sound}
 use Rattle.sound.specs.Decided.{sound, isSound}
 use Rattle.sound_lists.specs.Walked.{ClassLists}
 use Rattle.sound_check.specs.Joined.{classAtRow, RowSound, RowsSound}

@@ -1,6 +1,6 @@
 -- All lists of a table joined, class by class: what the check counts. Assumes nothing.
 use mathlib.Core.Path.{_≡_}
-use mathlib.Core.List.{List, [], _∷_, _++_}
+use mathlib.Core.List.{List, [], _++_}
 use Prim.Native.Nat.{ℕ, zero, suc, _*_, _/_, _%_, _<_, _≤_}
 use lib.ListN.{length}
 use Rattle.magazine_layout.specs.Layout.{entriesPerHeap}

@@ -1,7 +1,6 @@
 // The check of a whole table: every used span, and the lists and the magazine of every class of every heap.
 use tables::ClassHeap;
 ghost use mathlib.Core.Path.{_≡_};
-ghost use mathlib.Core.List.{List};
 ghost use Prim.Native.Nat.{ℕ, _<_, _≤_};
 ghost use lib.ListN.{length};
 ghost use Rattle.laws.specs.Choice.{Says};

@@ -1,11 +1,11 @@
 -- The walk of one list: after so many steps the list is right exactly where the rest of it is. Assumes nothing.
-use mathlib.Core.Path.{_≡_, refl, sym, ap, subst, _∙_}
+use mathlib.Core.Path.{_≡_, sym, ap, subst}
 use mathlib.Core.List.{List, [], _∷_}
-use Prim.Native.Nat.{ℕ, zero, suc, _+_, _-_, _*_, _^_, _<_, _≤_}
+use Prim.Native.Nat.{ℕ, suc, _+_, _-_, _*_, _<_, _≤_}
 use native.Mathlib.Nat.{mul-le-mul-right}
 use native.Mathlib.Omega.{arith}
 use lib.ListN.{length}
-use Rattle.laws.specs.Links.{All, Joined, Chain, walk}
+use Rattle.laws.specs.Links.{All, Chain, walk}
 use Rattle.laws.proofs.ChainLaws.{walk-none, walk-some}
 use Rattle.tables.specs.declared.ClassHeap.{ClassHeap}
 use Rattle.tables.specs.Shape.{recordCells}
@@ -13,7 +13,7 @@ use Rattle.tables.specs.Cells.{Tables, occupiedAt, previousAt, nextAt, headAt}
 use Rattle.linked_list.specs.Lists.{listOf}
 use Rattle.span.specs.Room.{FieldCells}
 use Rattle.sound.specs.Sound.{Belongs, ListSound}
-use Rattle.sound_lists.specs.Walked.{UsedFields, Fits, Between, Met}
+use Rattle.sound_lists.specs.Walked.{UsedFields, Fits, Between}
 
 -- The record of a used span is there.
 pub record-there : {spans : List ℕ} {used s : ℕ} → UsedFields spans used → s < used → FieldCells spans s

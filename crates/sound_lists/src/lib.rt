@@ -1,11 +1,10 @@
 // The check of the lists: each is walked once from its head, and the spans met are counted.
 use tables::ClassHeap;
-ghost use mathlib.Core.Path.{_≡_};
 ghost use mathlib.Core.List.{List};
-ghost use Prim.Native.Nat.{ℕ, _+_, _*_, _<_, _≤_};
+ghost use Prim.Native.Nat.{ℕ, _+_, _*_, _<_};
 ghost use lib.ListN.{length};
 ghost use Rattle.laws.specs.Choice.{Says};
-ghost use Rattle.tables.specs.Cells.{tables as table, headCell, reserve};
+ghost use Rattle.tables.specs.Cells.{tables as table, headCell};
 ghost use Rattle.linked_list.specs.Lists.{listOf};
 ghost use Rattle.sound.specs.Sound.{ListSound};
 ghost use Rattle.sound_lists.specs.Walked.{UsedFields, Fits, Between, Met, ClassLists, spansIn, ClassCells};

@@ -1,6 +1,5 @@
 // The check of one magazine: its count, each entry below the count, and that no entry stands there twice.
 use tables::ClassHeap;
-ghost use mathlib.Core.Path.{_≡_};
 ghost use mathlib.Core.List.{List};
 ghost use Prim.Native.Nat.{ℕ, _+_, _<_, _≤_};
 ghost use lib.ListN.{length};

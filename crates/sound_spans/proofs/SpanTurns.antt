@@ -1,7 +1,7 @@
 -- The turns of the check of a span: one word more is right, all words make the span right, and a fault of a right span is none. Assumes nothing.
 use mathlib.Core.Path.{_≡_, refl, sym, ap, subst, _∙_}
 use mathlib.Core.List.{List}
-use Prim.Native.Nat.{ℕ, _+_, _-_, _*_, _^_, _<_, _≤_}
+use Prim.Native.Nat.{ℕ, _+_, _-_, _^_, _<_, _≤_}
 use native.Mathlib.Omega.{arith}
 use lib.ListN.{length, getD}
 use borrow.Author.Count.{below-more, below-none}
@@ -15,7 +15,7 @@ use Rattle.tables.specs.Shape.{Shape, shape, bitmapCells}
 use Rattle.tables.specs.Cells.{Tables, tables, bitmapCell, spanCell, ownerField, occupiedField, localWord, remoteWord}
 use Rattle.sound.specs.Sound.{homeOf, SpanFilled}
 use Rattle.sound_spans.specs.WordSound.{WordSound, WordFilled, SpanRead, WordsPassed}
-use Rattle.sound_spans.proofs.SpanWords.{slots-home, home-most, filled-word, words-count, words-filled}
+use Rattle.sound_spans.proofs.SpanWords.{slots-home, filled-word, words-count, words-filled}
 
 -- The same word by other names of its numbers.
 pub renamed :

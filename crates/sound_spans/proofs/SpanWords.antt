@@ -6,9 +6,8 @@ use Prim.Native.Nat.{ℕ, zero, suc, _+_, _-_, _*_, _/_, _%_, _^_, _<_, _≤_}
 use native.Mathlib.Nat.{mod-lt, mul-le-mul-right}
 use native.Mathlib.Omega.{arith}
 use lib.Dec.{lit<}
-use lib.ListN.{length}
 use Rattle.laws.specs.Choice.{sum}
-use Rattle.laws.specs.Word.{bitAt, isSet, popcount}
+use Rattle.laws.specs.Word.{bitAt, isSet}
 use Rattle.laws.proofs.SumLaws.{sum-same, sum-split, sum-ones}
 use Rattle.laws.proofs.BitLaws.{bit-cond, ones-sum}
 use Rattle.size_classes.specs.SlotSizes.{slotSize}
@@ -16,11 +15,11 @@ use Rattle.size_classes.specs.Slots.{mostSlots, slotsPerSpan}
 use Rattle.size_classes.proofs.SlotTheorems.{slots-most}
 use Rattle.occupancy.proofs.RightLaws.{slot-word, slot-bit}
 use Rattle.tables.specs.Shape.{Shape, classes, bitmapCells, recordCells, classHeap}
-use Rattle.tables.specs.Cells.{Tables, bitmapWord, localSummary, localWord, remoteSummary, remoteWord, classAt, ownerAt, occupiedAt}
+use Rattle.tables.specs.Cells.{Tables, bitmapWord, localWord, remoteWord, classAt, ownerAt, occupiedAt}
 use Rattle.span.specs.State.{isOccupied, isPending}
 use Rattle.span.specs.Room.{WordCells, FieldCells}
 use Rattle.sound.specs.Sound.{homeOf, setBits, SpanFilled}
-use Rattle.sound_spans.specs.WordSound.{WordSound, UsedCells, WordFilled, wordBits}
+use Rattle.sound_spans.specs.WordSound.{UsedCells, WordFilled, wordBits}
 
 -- A slot is bit q % 64 of word q / 64.
 slot-is : (q : ℕ) → q / 64 * 64 + q % 64 ≡ q

@@ -1,18 +1,17 @@
 -- The tests of one word by its bits: those past the last slot are set, and those pending stand on set bits in range. Assumes nothing.
-use mathlib.Core.Path.{_≡_, sym, ap, ap₂, _∙_}
-use mathlib.Core.Bool.{Bool, true, not}
+use mathlib.Core.Path.{_≡_, sym, ap, _∙_}
+use mathlib.Core.Bool.{true}
 use Prim.Native.Nat.{ℕ, zero, suc, _+_, _-_, _*_, _^_, _<_, _≤_, min}
 use native.Mathlib.Nat.{min-le-right, lt-of-le-of-lt}
 use native.Mathlib.Decide.{decLt}
 use native.Mathlib.Omega.{arith}
-use lib.Dec.{eqb}
 use lib.Bits.{bitAnd, and-le-l, and-le-r}
 use lib.Pow.{pow-pos, pow-sub-lt}
 use borrow.Author.Tests.{eq-eqb}
-use Rattle.laws.specs.Word.{allOnes, bitAt, isSet}
+use Rattle.laws.specs.Word.{bitAt, isSet}
 use Rattle.laws.proofs.BitLaws.{bit-lt, bit-and, bit-ext, bit-zero, set-one}
 use Rattle.occupancy.proofs.FreshLaws.{from-low, from-high}
-use Rattle.sound_spans.specs.WordSound.{padOf, WordSound}
+use Rattle.sound_spans.specs.WordSound.{padOf}
 
 -- ---- bit by bit
 

@@ -1,7 +1,7 @@
 // The check of the cells of every used span: class, owner, summaries, pending bits, bits past the last slot and the occupied count.
 ghost use mathlib.Core.Path.{_≡_};
 ghost use mathlib.Core.List.{List};
-ghost use Prim.Native.Nat.{ℕ, _<_, _≤_};
+ghost use Prim.Native.Nat.{ℕ, _<_};
 ghost use Rattle.laws.specs.Choice.{Says};
 ghost use Rattle.size_classes.specs.SlotSizes.{Admissible};
 ghost use Rattle.tables.specs.Shape.{shape};

@@ -1,18 +1,15 @@
 -- `sound_check::is_sound` meets its contract: the spans, and then the rows. Assumes nothing.
-use borrow.Author.Needs.{needs}
-use mathlib.Core.Path.{_≡_, sym, subst}
+use mathlib.Core.Path.{sym, subst}
 use mathlib.Core.Bool.{false}
 use mathlib.Core.List.{List}
 use Prim.Native.Nat.{ℕ, _*_, _≤_}
 use native.Mathlib.Nat.{mul-le-mul-right}
 use native.Mathlib.Omega.{arith}
-use lib.ListN.{length}
-use Rattle.tables.specs.Shape.{shape, mostHeaps, bitmapCells, recordCells}
+use Rattle.tables.specs.Shape.{shape, bitmapCells, recordCells}
 use Rattle.tables.specs.Cells.{tables}
 use Rattle.tables.specs.Stated.{RightLengths}
 use Rattle.sound_spans.specs.WordSound.{UsedCells}
 use Rattle.sound_spans.proofs.TestLaws.{granted, refuted}
-use Rattle.sound_check.specs.Joined.{RowCells}
 use Rattle.sound_check.proofs.SoundParts.{says-sound, says-rows}
 use Rattle.sound_check.proofs.is_sound.Statement.{statement}
 use Rattle.sound_check.proofs.is_sound.Tie as tie

@@ -1,6 +1,6 @@
 -- `sound_check::rows_sound` meets its contract: the rows passed are right, and the spans met in them are counted. Assumes nothing.
 use borrow.Author.Needs.{needs}
-use mathlib.Core.Path.{_≡_, refl, sym, ap, ap₂, subst, _∙_}
+use mathlib.Core.Path.{_≡_, sym, ap, ap₂, subst, _∙_}
 use mathlib.Core.List.{List}
 use Prim.Native.Nat.{ℕ, _+_, _-_, _*_, _/_, _%_, _^_, _<_, _≤_}
 use native.Mathlib.Nat.{mod-lt}
@@ -10,14 +10,14 @@ use Rattle.size_classes.specs.SlotSizes.{Admissible, mostClasses, slotSize}
 use Rattle.magazine_layout.specs.Layout.{mostCapacity, capacityFor, entriesPerHeap}
 use Rattle.tables.specs.declared.ClassHeap.{ClassHeap}
 use Rattle.tables.specs.Shape.{shape, mostHeaps, baseOf}
-use Rattle.tables.specs.Cells.{Tables, tables}
+use Rattle.tables.specs.Cells.{tables}
 use Rattle.tables.proofs.MagazineCells.{rows-small, bases-small, base-within}
 use Rattle.magazine.specs.Room.{Counted}
 use Rattle.sound.specs.Sound.{MagazineSound}
 use Rattle.sound_spans.proofs.TestLaws.{granted, refuted, says-eqb}
 use Rattle.sound_lists.specs.Walked.{ClassLists, spansIn, ClassCells, Met}
 use Rattle.sound_lists.proofs.WalkLaws.{used-small}
-use Rattle.sound_check.specs.Joined.{Passed, RowCells}
+use Rattle.sound_check.specs.Joined.{Passed}
 use Rattle.sound_check.proofs.BaseTurns.{baseAt, row-at, base-first, base-next, capacity-at}
 use Rattle.sound_check.proofs.RowTurns.{fields-used, heads-there, entries-there, row-heap, passed-none, passed-few, passed-more, all-rows, rows-all}
 use Rattle.sound_check.proofs.rows_sound.Statement.{statement}

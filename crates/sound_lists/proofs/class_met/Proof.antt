@@ -1,12 +1,11 @@
 -- `sound_lists::class_met` meets its contract: four walks, and the reserve's span apart from the empty list. Assumes nothing.
-use borrow.Author.Needs.{needs}
-use mathlib.Core.Path.{_≡_, refl, sym, ap, subst, _∙_}
+use mathlib.Core.Path.{sym, _∙_}
 use mathlib.Core.List.{List}
-use Prim.Native.Nat.{ℕ, _+_, _*_, _^_, _<_, _≤_}
+use Prim.Native.Nat.{ℕ, _+_, _^_, _<_}
 use native.Mathlib.Omega.{arith}
 use Rattle.size_classes.specs.Slots.{mostSlots}
 use Rattle.tables.specs.declared.ClassHeap.{ClassHeap}
-use Rattle.tables.specs.Cells.{Tables, tables}
+use Rattle.tables.specs.Cells.{tables}
 use Rattle.sound_lists.specs.Walked.{ClassCells}
 use Rattle.sound_lists.proofs.WalkLaws.{used-small}
 use Rattle.sound_lists.proofs.ClassTests.{class-right, some-fault, all-fault, none-fault, kept-fault, more-fault, fault-of}

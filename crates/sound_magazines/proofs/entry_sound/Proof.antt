@@ -1,7 +1,7 @@
 -- `sound_magazines::entry_sound` meets its contract: each test decides one clause of an entry. Assumes nothing.
 use borrow.Author.Needs.{needs}
 use borrow.Author.Tests.{not-true, not-false}
-use mathlib.Core.Path.{_≡_, sym, _∙_}
+use mathlib.Core.Path.{sym, _∙_}
 use mathlib.Core.Bool.{true≢false}
 use native.Mathlib.Omega.{arith}
 use Rattle.tables.specs.Cells.{localWord, remoteWord, classField, ownerField}

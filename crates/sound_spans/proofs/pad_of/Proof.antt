@@ -1,6 +1,6 @@
 -- `sound_spans::pad_of` meets its contract: all bits, none, or those from the last slot on. Assumes nothing.
 use borrow.Author.Needs.{needs}
-use mathlib.Core.Path.{_≡_, sym, ap, _∙_}
+use mathlib.Core.Path.{_≡_, ap, _∙_}
 use Prim.Native.Nat.{ℕ, _-_, _*_, _^_, min}
 use native.Mathlib.Omega.{arith}
 use Rattle.sound_spans.specs.WordSound.{padOf}

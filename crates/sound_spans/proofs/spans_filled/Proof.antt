@@ -1,15 +1,12 @@
 -- `sound_spans::spans_filled` meets its contract: the spans passed are right, and so are the words passed of the span at hand. Assumes nothing.
 use borrow.Author.Needs.{needs}
 use borrow.Author.Count.{below-more, below-none}
-use mathlib.Core.Path.{_≡_, refl, sym, ap, subst, _∙_}
+use mathlib.Core.Path.{_≡_, refl, sym, subst}
 use mathlib.Core.Bool.{Bool, true}
 use mathlib.Core.List.{List, []}
-use Prim.Native.Nat.{ℕ, _+_, _-_, _*_, _<_, _≤_}
+use Prim.Native.Nat.{ℕ, _-_, _<_, _≤_}
 use native.Mathlib.Omega.{arith}
-use lib.ListN.{length}
-use Rattle.laws.specs.Word.{popcount}
 use Rattle.laws.proofs.WordLaws.{ones-most}
-use Rattle.size_classes.specs.SlotSizes.{Admissible, slotSize}
 use Rattle.size_classes.specs.Slots.{mostSlots, slotsPerSpan}
 use Rattle.size_classes.proofs.SlotTheorems.{slots-most}
 use Rattle.tables.specs.Shape.{shape}

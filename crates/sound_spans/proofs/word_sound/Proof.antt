@@ -1,10 +1,7 @@
 -- `sound_spans::word_sound` meets its contract: each test decides one clause of a word. Assumes nothing.
 use borrow.Author.Needs.{needs}
-use mathlib.Core.Path.{_≡_, sym, ap, _∙_}
-use mathlib.Core.Bool.{Bool}
-use Prim.Native.Nat.{ℕ, _^_, _<_}
+use mathlib.Core.Path.{sym, ap, _∙_}
 use lib.Bits.{bitAnd}
-use Rattle.sound_spans.specs.WordSound.{padOf, WordSound}
 use Rattle.sound_spans.proofs.TestLaws.{agree, differ, says-eqb}
 use Rattle.sound_spans.proofs.WordTests.{pad-set, set-pad, held, none-past, all-set}
 use Rattle.sound_spans.proofs.word_sound.Statement.{statement}
