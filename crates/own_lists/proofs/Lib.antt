@@ -1,0 +1,3 @@
+pub mod LinkedKept
+pub mod OwnKept
+pub mod FrontsKept
