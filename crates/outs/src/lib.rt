@@ -1,0 +1,1 @@
+// Which blocks each step of a class heap leaves out. Theorems only, no code.
