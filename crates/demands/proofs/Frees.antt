@@ -18,10 +18,10 @@ use Rattle.tables.specs.Cells.{Tables, asStated}
 use Rattle.sound.specs.Sound.{Sound}
 use Rattle.sound.specs.Decided.{isSound}
 use Rattle.sound_laws.proofs.SoundTested.{sound-passes, unsound-fails}
-use Rattle.heap.specs.Outcome.{Outcome, refused}
-use Rattle.laggersten.specs.Calls.{guarded, allocate, namesSlot, slotSizeAt, freed, freeSound, free}
-use Rattle.laggersten.specs.Batch.{Batched, batched, wholeRecords, batch}
-use Rattle.laggersten.specs.Summary.{Summed, summed, summary}
+use Rattle.calls.specs.Outcome.{Outcome, refused}
+use Rattle.calls.specs.Calls.{guarded, allocate, namesSlot, slotSizeAt, freed, freeSound, free}
+use Rattle.calls.specs.Batch.{Batched, batched, wholeRecords, batch}
+use Rattle.calls.specs.Summary.{Summed, summed, summary}
 
 -- ---- "An unsound lent table is refused"
 

@@ -8,11 +8,11 @@ use Rattle.size_classes.specs.SlotSizes.{slotSizes}
 use Rattle.magazine_layout.specs.Layout.{entriesPerHeap}
 use Rattle.tables.specs.Shape.{baseShape, bitmapCells, recordCells, headCells}
 use Rattle.tables.specs.Cells.{Tables, tables}
-use Rattle.heap.specs.declared.Answer.{Answer}
-use Rattle.laggersten.specs.Calls.{wordsNeeded}
-use Rattle.laggersten.specs.Run.{Call, allocation, release, Ran, runSound}
-use Rattle.laggersten.specs.Batch.{wordsFrom}
-use Rattle.laggersten.proofs.Computed.{computed}
+use Rattle.calls.specs.declared.Answer.{Answer}
+use Rattle.calls.specs.Calls.{wordsNeeded}
+use Rattle.calls.specs.Run.{Call, allocation, release, Ran, runSound}
+use Rattle.calls.specs.Batch.{wordsFrom}
+use Rattle.calls.proofs.Computed.{computed}
 
 -- an allocation whose words come from a seed, as a batch's do
 abbrev pub al : ℕ → ℕ → ℕ → ℕ → Call

@@ -6,9 +6,9 @@ use Prim.Native.Nat.{ℕ, _+_, _*_}
 use lib.ListN.{take, drop, replicate}
 use Rattle.tables.specs.Shape.{Shape, baseShape}
 use Rattle.tables.specs.Cells.{Tables, tables, classAt, ownerAt, occupiedAt}
-use Rattle.laggersten.specs.Batch.{Batched, batch}
-use Rattle.laggersten.specs.Summary.{pendingSlots, classRecord}
-use Rattle.laggersten.proofs.Computed.{computed}
+use Rattle.calls.specs.Batch.{Batched, batch}
+use Rattle.calls.specs.Summary.{pendingSlots, classRecord}
+use Rattle.calls.proofs.Computed.{computed}
 
 abbrev shape : Shape
 shape = baseShape 4 32

@@ -1,11 +1,11 @@
 -- Lists of calls, one after the other. Assumes nothing.
 use mathlib.Core.List.{List, [], _∷_}
 use Prim.Native.Nat.{ℕ}
-use Rattle.heap.specs.declared.Answer.{Answer}
+use Rattle.calls.specs.declared.Answer.{Answer}
 use Rattle.tables.specs.Shape.{Shape}
 use Rattle.tables.specs.Cells.{Tables}
-use Rattle.heap.specs.Outcome.{Outcome, refused}
-use Rattle.laggersten.specs.Calls.{allocate, allocateSound, free, freeSound}
+use Rattle.calls.specs.Outcome.{Outcome, refused}
+use Rattle.calls.specs.Calls.{allocate, allocateSound, free, freeSound}
 
 -- a call: an allocation with the words lent, a free, or a record of a batch that is neither
 pub data Call : Type 0 where

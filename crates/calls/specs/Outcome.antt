@@ -1,6 +1,6 @@
 -- What a call comes to: its answer, and the tables after it. Assumes nothing.
 use Prim.Native.Nat.{ℕ}
-use Rattle.heap.specs.declared.Answer.{Answer}
+use Rattle.calls.specs.declared.Answer.{Answer}
 use Rattle.tables.specs.Cells.{Tables}
 
 pub record Outcome : Type 0 where

@@ -9,7 +9,7 @@ use Rattle.tables.specs.declared.ClassHeap.{ClassHeap}
 use Rattle.tables.specs.Cells.{Tables, countAt, entryAt, entryOf, entrySpan, entrySlot}
 use Rattle.magazine.specs.Magazine.{needsRefill, isFull, pushEntry, drawnAt, drawEntry}
 use Rattle.class_heap.specs.Steps.{Refilled, refilled, refill, flush}
-use Rattle.heap.specs.Outcome.{Outcome, outcome, refused}
+use Rattle.calls.specs.Outcome.{Outcome, outcome, refused}
 
 -- the entry that a word draws: "a slot's offset in it its number times slot size"
 unfoldable pub granted : Tables → ClassHeap → ℕ → ℕ → Outcome

@@ -7,12 +7,12 @@ use lib.ListN.{set, replicate}
 use Rattle.tables.specs.Shape.{Shape, baseShape}
 use Rattle.tables.specs.Cells.{Tables, tables}
 use Rattle.tables.specs.Fresh.{fresh}
-use Rattle.heap.specs.Outcome.{Outcome, outcome, refused}
+use Rattle.calls.specs.Outcome.{Outcome, outcome, refused}
 use Rattle.tables.proofs.Tiny.{tiny, blank}
-use Rattle.laggersten.specs.Calls.{allocate, allocateSound, free, freeSound}
-use Rattle.laggersten.specs.Batch.{batch}
-use Rattle.laggersten.specs.Summary.{summary}
-use Rattle.laggersten.proofs.Computed.{computed}
+use Rattle.calls.specs.Calls.{allocate, allocateSound, free, freeSound}
+use Rattle.calls.specs.Batch.{batch}
+use Rattle.calls.specs.Summary.{summary}
+use Rattle.calls.proofs.Computed.{computed}
 
 abbrev words : ℕ → List ℕ
 words n = replicate n 0

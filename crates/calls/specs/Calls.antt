@@ -11,9 +11,9 @@ use Rattle.tables.specs.Shape.{Shape, classHeap}
 use Rattle.tables.specs.Cells.{Tables, asStated, classAt, ownerAt}
 use Rattle.span.specs.State.{isOut}
 use Rattle.sound.specs.Decided.{isSound}
-use Rattle.heap.specs.Outcome.{Outcome, outcome, refused}
-use Rattle.heap.specs.Heap.{allocSmall}
-use Rattle.primary.specs.Primary.{deallocSmall}
+use Rattle.calls.specs.Outcome.{Outcome, outcome, refused}
+use Rattle.calls.specs.Heap.{allocSmall}
+use Rattle.calls.specs.Primary.{deallocSmall}
 
 -- 1, "first", then 2, "the table is unsound", then what a sound table answers
 unfoldable pub guarded : Shape → Tables → Outcome → Outcome

@@ -8,9 +8,9 @@ use lib.Dec.{eqb, leb}
 use Rattle.tables.specs.Shape.{Shape}
 use Rattle.tables.specs.Cells.{Tables, asStated}
 use Rattle.sound.specs.Decided.{isSound}
-use Rattle.heap.specs.Outcome.{Outcome}
-use Rattle.laggersten.specs.Calls.{wordsNeeded}
-use Rattle.laggersten.specs.Run.{Call, allocation, release, malformed, performSound}
+use Rattle.calls.specs.Outcome.{Outcome}
+use Rattle.calls.specs.Calls.{wordsNeeded}
+use Rattle.calls.specs.Run.{Call, allocation, release, malformed, performSound}
 
 -- "The words are the seed, then each the previous plus 0x9E3779B97F4A7C15, wrapping at 2^64."
 unfoldable pub wordStep : ℕ

@@ -7,8 +7,8 @@ use lib.ListN.{getD}
 use Rattle.tables.specs.Cells.{Tables}
 use Rattle.class_heap.proofs.Computed.{stepwise}
 use Rattle.tables.proofs.Tiny.{one, blank}
-use Rattle.heap.specs.Heap.{granted, draw, allocSmall, deallocLocal}
-use Rattle.primary.specs.Primary.{deallocSmall}
+use Rattle.calls.specs.Heap.{granted, draw, allocSmall, deallocLocal}
+use Rattle.calls.specs.Primary.{deallocSmall}
 
 -- heap 0 has slot 5 of span 0 out, and the other seven cached
 abbrev held : Tables

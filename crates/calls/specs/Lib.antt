@@ -1,3 +1,6 @@
+pub mod Outcome
+pub mod Heap
+pub mod Primary
 pub mod Calls
 pub mod Run
 pub mod Batch

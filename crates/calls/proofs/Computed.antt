@@ -13,12 +13,12 @@ use Rattle.tables.specs.Fresh.{fresh}
 use Rattle.span.specs.State.{stateOf}
 use Rattle.sound.specs.Decided.{spanFilled, spanSound, belongs, listSound, entrySound, magazineSound, classSound, sound, isSound}
 use Rattle.class_heap.proofs.Computed.{stepwise}
-use Rattle.heap.specs.Heap.{granted, draw, allocSmall, deallocLocal}
-use Rattle.primary.specs.Primary.{deallocSmall}
-use Rattle.laggersten.specs.Calls.{guarded, wordsNeeded, allocateSound, allocate, namesSlot, freed, freeSound, free}
-use Rattle.laggersten.specs.Run.{runBy}
-use Rattle.laggersten.specs.Batch.{wordStep, wordsFrom, littleEndian, recordBytes, recordCall, answerCells, batchFrom, wholeRecords, batch}
-use Rattle.laggersten.specs.Summary.{overSpans, pendingSlots, classRecord, summaryCells, classRecords, summary}
+use Rattle.calls.specs.Heap.{granted, draw, allocSmall, deallocLocal}
+use Rattle.calls.specs.Primary.{deallocSmall}
+use Rattle.calls.specs.Calls.{guarded, wordsNeeded, allocateSound, allocate, namesSlot, freed, freeSound, free}
+use Rattle.calls.specs.Run.{runBy}
+use Rattle.calls.specs.Batch.{wordStep, wordsFrom, littleEndian, recordBytes, recordCall, answerCells, batchFrom, wholeRecords, batch}
+use Rattle.calls.specs.Summary.{overSpans, pendingSlots, classRecord, summaryCells, classRecords, summary}
 
 -- `computed x` is x
 unfoldable pub computed : {A : Type 0} → A → A

@@ -6,8 +6,8 @@ use Prim.Native.Nat.{ℕ, zero, suc}
 use Rattle.tables.specs.Cells.{Tables}
 use Rattle.class_heap.proofs.Computed.{stepwise}
 use Rattle.tables.proofs.Tiny.{one, blank}
-use Rattle.heap.specs.Outcome.{Outcome, outcome, refused}
-use Rattle.heap.specs.Heap.{granted, draw, allocSmall, deallocLocal}
+use Rattle.calls.specs.Outcome.{Outcome, outcome, refused}
+use Rattle.calls.specs.Heap.{granted, draw, allocSmall, deallocLocal}
 
 -- the claim takes all eight whatever its word; the draw's word is 5
 abbrev words : List ℕ

@@ -5,7 +5,7 @@ use lib.Dec.{eqb}
 use Rattle.tables.specs.declared.ClassHeap.{ClassHeap}
 use Rattle.tables.specs.Cells.{Tables}
 use Rattle.span.specs.Span.{remoteFree}
-use Rattle.heap.specs.Heap.{deallocLocal}
+use Rattle.calls.specs.Heap.{deallocLocal}
 
 -- a free, by a heap, of slot q of span s, which is out; k is the class and the owner of the span
 unfoldable pub deallocSmall : Tables → ClassHeap → ℕ → ℕ → ℕ → Tables

@@ -1,4 +1,4 @@
-// One heap: allocate from a class, and free by the owner.
+// The calls as definitions, and what each answers.
 
 // What a call answers: its number, and for an accepted one the block and the number of words used.
 #[repr(C)]
