@@ -13,7 +13,7 @@ use Rattle.tables.specs.Fresh.{fresh}
 use Rattle.span.specs.State.{stateOf}
 use Rattle.sound.specs.Decided.{spanFilled, spanSound, belongs, listSound, entrySound, magazineSound, classSound, sound, isSound}
 use Rattle.class_heap.proofs.Computed.{stepwise}
-use Rattle.calls.specs.Heap.{granted, draw, allocSmall, deallocLocal}
+use Rattle.calls.specs.Heap.{granted, draw, refillFirst, allocSmall, flushFirst, deallocLocal}
 use Rattle.calls.specs.Primary.{deallocSmall}
 use Rattle.calls.specs.Calls.{guarded, wordsNeeded, allocateSound, allocate, namesSlot, freed, freeSound, free}
 use Rattle.calls.specs.Run.{runBy}
@@ -22,5 +22,5 @@ use Rattle.calls.specs.Summary.{overSpans, pendingSlots, classRecord, su
 
 -- `computed x` is x
 unfoldable pub computed : {A : Type 0} → A → A
-unfolding stepwise decLe decLt ℕ-discrete sum chain times rising groups slotSizes leastAlignment largestSlot raised fits smallestClass inRange fewestSlots slotsPerSpan startsSlot magazineBytes leastCapacity mostCapacity capacityFor lowWaterFor magazineOffset entriesPerHeap mostHeaps mostSpans rowOf baseOf classHeap rightShape rightLengths asStated freshTables stateOf spanFilled spanSound belongs listSound entrySound magazineSound classSound sound isSound granted draw allocSmall deallocLocal deallocSmall fresh guarded wordsNeeded allocateSound allocate namesSlot freed freeSound free runBy wordStep wordsFrom littleEndian recordBytes recordCall answerCells batchFrom wholeRecords batch overSpans pendingSlots classRecord summaryCells classRecords summary
+unfolding stepwise decLe decLt ℕ-discrete sum chain times rising groups slotSizes leastAlignment largestSlot raised fits smallestClass inRange fewestSlots slotsPerSpan startsSlot magazineBytes leastCapacity mostCapacity capacityFor lowWaterFor magazineOffset entriesPerHeap mostHeaps mostSpans rowOf baseOf classHeap rightShape rightLengths asStated freshTables stateOf spanFilled spanSound belongs listSound entrySound magazineSound classSound sound isSound granted draw refillFirst allocSmall flushFirst deallocLocal deallocSmall fresh guarded wordsNeeded allocateSound allocate namesSlot freed freeSound free runBy wordStep wordsFrom littleEndian recordBytes recordCall answerCells batchFrom wholeRecords batch overSpans pendingSlots classRecord summaryCells classRecords summary
 computed x = x

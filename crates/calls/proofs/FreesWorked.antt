@@ -7,7 +7,7 @@ use lib.ListN.{getD}
 use Rattle.tables.specs.Cells.{Tables}
 use Rattle.class_heap.proofs.Computed.{stepwise}
 use Rattle.tables.proofs.Tiny.{one, blank}
-use Rattle.calls.specs.Heap.{granted, draw, allocSmall, deallocLocal}
+use Rattle.calls.specs.Heap.{granted, draw, refillFirst, allocSmall, flushFirst, deallocLocal}
 use Rattle.calls.specs.Primary.{deallocSmall}
 
 -- heap 0 has slot 5 of span 0 out, and the other seven cached
@@ -21,5 +21,5 @@ pub record WorkedFrees : Type 0 where
   pub otherPending : getD (deallocSmall held one 1 0 5 .bits) 66 0 ≡ 32
 
 pub worked : WorkedFrees
-unfolding stepwise granted draw allocSmall deallocLocal deallocSmall
+unfolding stepwise granted draw refillFirst allocSmall flushFirst deallocLocal deallocSmall
 worked = record { own = refl; ownPending = refl; other = refl; otherPending = refl }

@@ -7,7 +7,7 @@ use Rattle.tables.specs.Cells.{Tables}
 use Rattle.class_heap.proofs.Computed.{stepwise}
 use Rattle.tables.proofs.Tiny.{one, blank}
 use Rattle.calls.specs.Outcome.{Outcome, outcome, refused}
-use Rattle.calls.specs.Heap.{granted, draw, allocSmall, deallocLocal}
+use Rattle.calls.specs.Heap.{granted, draw, refillFirst, allocSmall, flushFirst, deallocLocal}
 
 -- the claim takes all eight whatever its word; the draw's word is 5
 abbrev words : List ℕ
@@ -36,6 +36,6 @@ pub record WorkedHeap : Type 0 where
   pub flushed : deallocLocal (deallocLocal (allocated 1) one 0 5) one 0 5 .heads ≡ 1 ∷ 0 ∷ 0 ∷ 0 ∷ 3 ∷ []
 
 pub worked : WorkedHeap
-unfolding stepwise granted draw allocSmall deallocLocal
+unfolding stepwise granted draw refillFirst allocSmall flushFirst deallocLocal
 worked =
     record { first = refl; second = refl; left = refl; refilled = refl; claims = refl; last = refl; six = refl; pushed = refl; flushed = refl }

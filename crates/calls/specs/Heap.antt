@@ -22,10 +22,18 @@ unfoldable pub draw : Refilled → ClassHeap → List ℕ → Outcome
 draw r k ws =
     cond (eqb (countAt (r .table) k) 0) (refused 6 (r .table)) (granted (r .table) k (getD ws (r .words) 0) (r .words + 1))
 
--- "Allocate: refill first if the count is at or below low water; then draw."
-unfoldable pub allocSmall : ℕ → Tables → ClassHeap → List ℕ → Outcome
-allocSmall limit t k ws = draw (cond (needsRefill t k) (refill (k .capacity) limit t k ws 0) (refilled t 0)) k ws
+-- "refill first if the count is at or below low water"
+unfoldable pub refillFirst : ℕ → Tables → ClassHeap → List ℕ → Refilled
+refillFirst limit t k ws = cond (needsRefill t k) (refill (k .capacity) limit t k ws 0) (refilled t 0)
 
--- "Free by the owner: push on the magazine. If it is full, first pop from the top down to low water"
+-- "Allocate: refill first ..; then draw."
+unfoldable pub allocSmall : ℕ → Tables → ClassHeap → List ℕ → Outcome
+allocSmall limit t k ws = draw (refillFirst limit t k ws) k ws
+
+-- "If it is full, first pop from the top down to low water"
+unfoldable pub flushFirst : Tables → ClassHeap → Tables
+flushFirst t k = cond (isFull t k) (flush (k .capacity) t k) t
+
+-- "Free by the owner: push on the magazine. If it is full, first .."
 unfoldable pub deallocLocal : Tables → ClassHeap → ℕ → ℕ → Tables
-deallocLocal t k s q = pushEntry (cond (isFull t k) (flush (k .capacity) t k) t) k (entryOf s q)
+deallocLocal t k s q = pushEntry (flushFirst t k) k (entryOf s q)

@@ -7,9 +7,12 @@ pub record Outcome : Type 0 where
   pub answer : Answer
   pub table : Tables
 
+abbrev pub ended : Answer → Tables → Outcome
+ended answer t = record { answer = answer; table = t }
+
 abbrev pub outcome : ℕ → ℕ → ℕ → ℕ → Tables → Outcome
 outcome number span offset words t =
-    record { answer = record { number = number; span = span; offset = offset; words = words }; table = t }
+    ended (record { number = number; span = span; offset = offset; words = words }) t
 
 -- "A refusal answers its number, span 0, offset 0, words used 0, and changes no cell."
 abbrev pub refused : ℕ → Tables → Outcome

@@ -5,13 +5,14 @@ use mathlib.Core.List.{List}
 use Prim.Native.Nat.{ℕ, zero, suc, _+_, _-_, _<_, _≤_}
 use native.Mathlib.Numerals.{sub-one}
 use native.Mathlib.Omega.{arith}
-use borrow.Author.Tests.{eq-eqb, ne-eqb, lt-ltb, le-ltb}
+use borrow.Author.Tests.{eq-eqb, ne-eqb, eqb-false, lt-ltb, le-ltb, ltb-true}
 use lib.ListN.{length, getD}
 use lib.Dec.{eqb, ltb}
 use Rattle.magazine_layout.specs.Layout.{mostCapacity}
 use Rattle.tables.specs.declared.ClassHeap.{ClassHeap}
 use Rattle.tables.specs.Cells.{Tables, tables, headAt, partialList, countAt}
-use Rattle.class_heap.specs.Steps.{replenish, claimFront, refill, refilled, Refilled}
+use Rattle.laws.proofs.CondLaws.{cond-both}
+use Rattle.class_heap.specs.Steps.{noPartial, replenish, claimFront, refill, refilled, Refilled}
 use Rattle.sound.specs.Sound.{Belongs}
 use Rattle.filled_magazines.proofs.FilledFacts.{capacity-within}
 use Rattle.placing.specs.Working.{Working}
@@ -146,3 +147,33 @@ module _ (limit : ℕ) (k : ClassHeap) (ws : List ℕ) (t₀ t : Tables) (i left
             headsLength = lh ∙ r .headsLength;
             same = rw c (sym (refill-turn left limit t k ws i room more then) ∙ r .same);
           }
+
+-- ---- what a refill comes to
+
+-- A refill keeps a working table working.
+pub refill-working :
+    (n : ℕ) {limit : ℕ} {k : ClassHeap} {t : Tables} (ws : List ℕ) (i : ℕ) → Working limit k t → Fronts n limit t k ws i →
+    Working limit k (refill n limit t k ws i .table)
+unfolding refill Fronts
+refill-working zero ws i w f = w
+refill-working (suc n) {limit} {k} {t} ws i w f =
+    cond-both (λ (r : Refilled). Working limit k (r .table)) (ltb (countAt t k) (k .capacity)) _ _
+    (λ e.
+    cond-both (λ (r : Refilled). Working limit k (r .table)) (noPartial (replenish limit t k) k) _ _ (λ d. replenish-working w)
+    (λ d.
+    let m : 0 < headAt (replenish limit t k) k partialList = omega (arith, eqb-false (headAt (replenish limit t k) k partialList) 0 d) in
+    let x = f (ltb-true (countAt t k) (k .capacity) e) m in
+    refill-working n ws (i + 1)
+    (claim-front-working (record { some = m; own = record { working = replenish-working w; belongs = x .0 } }) (getD ws i 0)) (x .1)))
+    (λ e. w)
+
+-- It uses a word a turn, at most.
+pub refill-words : (n limit : ℕ) (t : Tables) (k : ClassHeap) (ws : List ℕ) (i : ℕ) → refill n limit t k ws i .words ≤ i + n
+unfolding refill
+refill-words zero limit t k ws i = omega arith
+refill-words (suc n) limit t k ws i =
+    cond-both (λ (r : Refilled). r .words ≤ i + suc n) (ltb (countAt t k) (k .capacity)) _ _
+    (λ e.
+    cond-both (λ (r : Refilled). r .words ≤ i + suc n) (noPartial (replenish limit t k) k) _ _ (λ d. omega arith)
+    (λ d. omega (arith, refill-words n limit (claimFront (replenish limit t k) k (getD ws i 0)) k ws (i + 1))))
+    (λ e. omega arith)

@@ -11,7 +11,7 @@ ghost use Rattle.refilling.specs.Fronts.{Fronts};
 const PARTIAL: u64 = 0;
 
 // The word at a place.
-fn word_at(words: &[u64], i: u64) -> u64
+pub fn word_at(words: &[u64], i: u64) -> u64
     requires { ⌜ i < length (now words) ⌝ }
     ensures { λ r. ⌜ r ≡ getD (now (words .entry)) i 0 ⌝ }
 {
