@@ -16,7 +16,7 @@ use Rattle.occupancy.specs.Right.{Right, Took}
 use Rattle.occupancy.proofs.ClaimLaws.{claim-took}
 use Rattle.tables.specs.declared.ClassHeap.{ClassHeap}
 use Rattle.tables.specs.Shape.{Shape, classes, classHeap}
-use Rattle.tables.specs.Cells.{Tables, headAt, partialList, fullList, classField, ownerField, countAt, entryOf}
+use Rattle.tables.specs.Cells.{Tables, headAt, partialList, fullList, countAt, entryOf}
 use Rattle.magazine.specs.Room.{Room}
 use Rattle.magazine.specs.Magazine.{pushEntry, pushEntries}
 use Rattle.linked_list.specs.Lists.{push, remove}
@@ -29,7 +29,7 @@ use Rattle.filled_magazines.proofs.FilledFacts.{filled-room, belongs-home}
 use Rattle.filled_magazines.proofs.MagazineSteps.{Loose, block-loose}
 use Rattle.filled_magazines.proofs.PushesSteps.{Pushable, push-entries-filled}
 use Rattle.filled_spans.proofs.SpanValues.{home-most, filled-right}
-use Rattle.filled_spans.proofs.FilledKept.{OnlyOccupancy}
+use Rattle.filled_spans.proofs.FilledKept.{only-belongs}
 use Rattle.filled_spans.proofs.ClaimKept.{InMask, claimedOf, claim-only, claim-kept, claim-inside, claim-states}
 use Rattle.filled_spans.proofs.ReclaimKept.{folded-only, folded-kept}
 use Rattle.placing.specs.Working.{Working}
@@ -39,15 +39,6 @@ use Rattle.claiming.specs.Claimable.{Claimable, Own, Fronted}
 use Rattle.claiming.proofs.BitsListed.{BitOf, bits-at, bits-apart, bits-length}
 
 -- ---- the slots of a claim are out, of the class and heap, and fit in
-
--- A span whose occupancy alone changed is of the class and heap that it was of.
-pub only-belongs : (t u : Tables) (k : ClassHeap) (s : ℕ) → OnlyOccupancy t u s → Belongs t k s → Belongs u k s
-only-belongs t u k s o b =
-    record {
-      used = rw (o .used) (b .used);
-      class = o .own classField (omega arith) (λ e. omega (arith, e)) ∙ b .class;
-      owner = o .own ownerField (omega arith) (λ e. omega (arith, e)) ∙ b .owner;
-    }
 
 -- A slot of word i, by its bit.
 slot-in : (i mask b : ℕ) → b < 64 → (i * 64 + b) / 64 ≡ i
@@ -75,7 +66,7 @@ module _ (g : Shape) (t : Tables) (o : Filled g t) (h c : ℕ) (s : ℕ) (own : 
   bit-loose : (b : ℕ) → InMask i mask (i * 64 + b) → Loose g (stored t s (claimedOf t s m w)) (classHeap g h c) (entryOf s (i * 64 + b))
   bit-loose b n =
       let inside = claim-inside g t o s (own .used) m w i mask e (i * 64 + b) n in
-      block-loose g (stored t s (claimedOf t s m w)) h c s (only-belongs t _ (classHeap g h c) s (claim-only g t o s (own .used) m w) own)
+      block-loose g (stored t s (claimedOf t s m w)) h c s (only-belongs (claim-only g t o s (own .used) m w) (classHeap g h c) s own)
       (rw (sym (belongs-home g t h c s own)) inside)
       (claim-states g t o s (own .used) m w i mask e .named (i * 64 + b) (omega (arith, inside, home-most g t s)) n)
 
@@ -136,7 +127,7 @@ module _ {n : ℕ} {k : ClassHeap} {t : Tables} {s : ℕ} (x : Own n k t s) wher
       let v = x .working in
       record {
         working = working-on v (folded-kept (v .shape) t (v .filled) s (x .belongs .used));
-        belongs = only-belongs t (folded t s) k s (folded-only (v .shape) t (v .filled) s (x .belongs .used)) (x .belongs);
+        belongs = only-belongs (folded-only (v .shape) t (v .filled) s (x .belongs .used)) k s (x .belongs);
       }
 
 -- ---- what enters, and what that keeps

@@ -20,7 +20,7 @@ use Rattle.tables.proofs.CellLaws.{local-in, remote-in, summaries-in}
 use Rattle.tables.proofs.StatedLaws.{stated-passed, stated-passes}
 use Rattle.magazine.specs.Magazine.{isCached}
 use Rattle.span.specs.State.{isOccupied, isPending, stateOf}
-use Rattle.sound.specs.Sound.{homeOf, setBits, SpanFilled, EntrySound, MagazineSound}
+use Rattle.sound.specs.Sound.{homeOf, setBits, SpanFilled, Belongs, EntrySound, MagazineSound}
 use Rattle.sound.specs.Filled.{Filled}
 use Rattle.filled_spans.proofs.SpanValues.{slot-place, class-most, home-most}
 use Rattle.filled_spans.proofs.BlockStates.{same-tests}
@@ -71,6 +71,24 @@ only-then t u v s a b =
           };
       used = b .used ∙ a .used;
       own = λ k h n. b .own k h n ∙ a .own k h n;
+    }
+
+-- Every field of every span but the count of s is as it was.
+pub only-field :
+    {t u : Tables} {s : ℕ} → OnlyOccupancy t u s → (r f : ℕ) → f ≤ nextField → (f ≡ occupiedField → ⊥) → spanField u r f ≡ spanField t r f
+only-field {t} {u} {s} o r f l n =
+    elim (ℕ-discrete r s) [
+      | yes e ↦ subst (λ (x : ℕ). spanField u x f ≡ spanField t x f) (sym e) (o .own f l n)
+      | no e ↦ o .span .fields r f l e
+    ]
+
+-- So each span is of the class and heap that it was of.
+pub only-belongs : {t u : Tables} {s : ℕ} → OnlyOccupancy t u s → (k : ClassHeap) (r : ℕ) → Belongs t k r → Belongs u k r
+only-belongs o k r b =
+    record {
+      used = rw (o .used) (b .used);
+      class = only-field o r classField (omega arith) (λ e. omega (arith, e)) ∙ b .class;
+      owner = only-field o r ownerField (omega arith) (λ e. omega (arith, e)) ∙ b .owner;
     }
 
 -- An entry is that of its span and its slot.

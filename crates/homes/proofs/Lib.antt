@@ -1,2 +1,3 @@
 pub mod FitsLaws
 pub mod SoundWhole
+pub mod HomesFrame
