@@ -1,2 +1,3 @@
 pub mod PlacingMade
+pub mod PlacingQuiet
 pub mod PlacingKept
