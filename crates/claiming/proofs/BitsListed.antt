@@ -4,7 +4,7 @@ use mathlib.Core.Bool.{Bool, true}
 use mathlib.Core.List.{List, [], _∷_}
 use Prim.Native.Nat.{ℕ, zero, suc, _+_, _/_, _%_, _<_}
 use native.Mathlib.Omega.{arith}
-use borrow.Author.Tests.{eq-eqb}
+use borrow.Author.Tests.{eq-eqb, eqb-true}
 use lib.Count.{onesIn}
 use lib.ListN.{length, getD}
 use lib.Dec.{eqb}
@@ -36,6 +36,29 @@ pub bits-at : (d i x j : ℕ) → j < length (bitsFrom d i x) → BitOf d i x (g
 unfolding bitsFrom
 bits-at zero i x j l = absurd (omega arith)
 bits-at (suc d) i x j l = digit-at d i x (x % 2) j (bitsFrom d (suc i) (x / 2)) refl (λ m. bits-at d (suc i) (x / 2) m) l
+
+-- y stands in a list
+pub record Stands (l : List ℕ) (y : ℕ) : Type 0 where
+  pub place : ℕ
+  pub below : place < length l
+  pub is : getD l place 0 ≡ y
+
+stands-later : (y z v i : ℕ) (above : List ℕ) → y ≡ z → Stands above y → Stands (bitDigit v i above) z
+stands-later y z zero i above e s = record { place = s .place; below = s .below; is = s .is ∙ e }
+stands-later y z (suc v) i above e s = record { place = suc (s .place); below = omega (arith, s .below); is = s .is ∙ e }
+
+-- Each set bit stands in the list.
+pub bits-stand : (d i x b : ℕ) → b < d → isSet x b ≡ true → Stands (bitsFrom d i x) (i + b)
+unfolding bitsFrom
+bits-stand zero i x b l e = absurd (omega arith)
+bits-stand (suc d) i x zero l e = first (x % 2) (sym (bit-first x) ∙ eqb-true (bitAt x 0) 1 e)
+  where
+    first : (v : ℕ) → v ≡ 1 → Stands (bitDigit v i (bitsFrom d (suc i) (x / 2))) (i + 0)
+    first zero z = absurd (omega arith)
+    first (suc v) z = record { place = 0; below = omega arith; is = omega arith }
+bits-stand (suc d) i x (suc b) l e =
+    stands-later (suc i + b) (i + suc b) (x % 2) i (bitsFrom d (suc i) (x / 2)) (omega arith)
+    (bits-stand d (suc i) (x / 2) b (omega arith) (rw (← bit-next x b) e))
 
 digit-apart :
     (i v : ℕ) (above : List ℕ) → ((m : ℕ) → m < length above → i < getD above m 0) →

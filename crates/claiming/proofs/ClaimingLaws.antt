@@ -90,10 +90,10 @@ module _ (g : Shape) (t : Tables) (o : Filled g t) (h c : ℕ) (s : ℕ) (own : 
 
 -- ---- a claim of a span of a working table
 
-named-room : {k l : ClassHeap} (t : Tables) → k ≡ l → countAt t k ≤ k .capacity → countAt t l + (k .capacity - countAt t k) ≤ l .capacity
+pub named-room : {k l : ClassHeap} (t : Tables) → k ≡ l → countAt t k ≤ k .capacity → countAt t l + (k .capacity - countAt t k) ≤ l .capacity
 named-room {k} {l} t e h = rw (← e) (omega (arith, h))
 
-pushable-named : {g : Shape} {t : Tables} {k l : ClassHeap} {es : List ℕ} → k ≡ l → Pushable g t l es → Pushable g t k es
+pub pushable-named : {g : Shape} {t : Tables} {k l : ClassHeap} {es : List ℕ} → k ≡ l → Pushable g t l es → Pushable g t k es
 pushable-named e p = rw e p
 
 pub working-room : {n : ℕ} {k : ClassHeap} {t : Tables} → Working n k t → Room (t .entries) (t .heads) k
@@ -107,7 +107,7 @@ module _ {n : ℕ} {k : ClassHeap} {t : Tables} {s : ℕ} (x : Own n k t s) wher
   own-right = (homeOf (x .working .shape) t s .slots, filled-right (x .working .shape) t (x .working .filled) s (x .belongs .used))
 
   -- Its answer may enter the magazine.
-  pub claim-claimable : (w : ℕ) → Claimable n k (stored t s (claimOf t k s w .occupancy)) s (claimOf t k s w .answer)
+  abbrev pub claim-claimable : (w : ℕ) → Claimable n k (stored t s (claimOf t k s w .occupancy)) s (claimOf t k s w .answer)
   claim-claimable w =
       let v = x .working in
       let m = k .capacity - countAt t k in
@@ -122,7 +122,7 @@ module _ {n : ℕ} {k : ClassHeap} {t : Tables} {s : ℕ} (x : Own n k t s) wher
       }
 
   -- The span with its pending frees folded in is one still.
-  pub fold-own : Own n k (folded t s) s
+  abbrev pub fold-own : Own n k (folded t s) s
   fold-own =
       let v = x .working in
       record {
@@ -137,11 +137,14 @@ unfolding pushEntries pushEntry
 pushes-used [] t k = refl
 pushes-used (e ∷ es) t k = pushes-used es (pushEntry t k e) k
 
-pub if-full-working : {n : ℕ} {k : ClassHeap} {t : Tables} {s : ℕ} → Working n k t → s < t .used → Working n k (ifFull t k s)
+pub if-full-filled : {n : ℕ} {k : ClassHeap} {t : Tables} {s : ℕ} (w : Working n k t) → s < t .used → Filled (w .shape) (ifFull t k s)
 unfolding ifFull remove
-if-full-working {n} {k} {t} {s} w l =
-    cond-both (Working n k) (isFull t k s) (push (remove t k partialList s) k fullList s) t
-    (λ e. push-working (remove-working w (omega arith) l) (omega arith) l) (λ e. w)
+if-full-filled {n} {k} {t} {s} w l =
+    cond-both (Filled (w .shape)) (isFull t k s) (push (remove t k partialList s) k fullList s) t
+    (λ e. push-working (remove-working w (omega arith) l) (omega arith) l .filled) (λ e. w .filled)
+
+abbrev pub if-full-working : {n : ℕ} {k : ClassHeap} {t : Tables} {s : ℕ} → Working n k t → s < t .used → Working n k (ifFull t k s)
+if-full-working w l = working-on w (if-full-filled w l)
 
 -- The entries of a used span are numbers of 64 bits.
 pub entries-few : {n : ℕ} {k : ClassHeap} {t : Tables} {s i : ℕ} → Working n k t → s < t .used → i < 64 → entryOf s (i * 64) + 64 ≤ 2 ^ 64
@@ -153,7 +156,7 @@ module _ {n : ℕ} {k : ClassHeap} {t : Tables} {s i mask : ℕ} (x : Claimable 
   pub taken-fits : countAt t k + length (claimedEntries s i mask) ≤ k .capacity
   taken-fits = x .pushable i mask refl .fits
 
-  pub pushed-working : Working n k (pushEntries (claimedEntries s i mask) t k)
+  abbrev pub pushed-working : Working n k (pushEntries (claimedEntries s i mask) t k)
   pushed-working =
       let v = x .working in
       working-on v (rw (v .named) (push-entries-filled (v .filled) (v .inHeaps) (v .inClasses) (pushable-named (sym (v .named)) (x .pushable i mask refl))))
@@ -161,18 +164,24 @@ module _ {n : ℕ} {k : ClassHeap} {t : Tables} {s i mask : ℕ} (x : Claimable 
   pub pushed-used : s < pushEntries (claimedEntries s i mask) t k .used
   pushed-used = rw (pushes-used (claimedEntries s i mask) t k) (x .used)
 
-pub taken-working : {n : ℕ} {k : ClassHeap} {t : Tables} {s : ℕ} (a : Claimed) → Claimable n k t s a → Working n k (taken t k s a)
+pub taken-filled :
+    {n : ℕ} {k : ClassHeap} {t : Tables} {s : ℕ} (a : Claimed) (x : Claimable n k t s a) → Filled (x .working .shape) (taken t k s a)
 unfolding taken
-taken-working Nothing x = x .working
-taken-working (Taken i mask) x = if-full-working (pushed-working x) (pushed-used x)
+taken-filled Nothing x = x .working .filled
+taken-filled (Taken i mask) x = if-full-working (pushed-working x) (pushed-used x) .filled
 
-pub claim-from-working : {n : ℕ} {k : ClassHeap} {t : Tables} {s : ℕ} → Own n k t s → (w : ℕ) → Working n k (claimFrom t k s w)
+pub claim-from-filled :
+    {n : ℕ} {k : ClassHeap} {t : Tables} {s : ℕ} (x : Own n k t s) (w : ℕ) → Filled (x .working .shape) (claimFrom t k s w)
 unfolding claimFrom
-claim-from-working {n} {k} {t} {s} x w = taken-working (claimOf t k s w .answer) (claim-claimable x w)
+claim-from-filled {n} {k} {t} {s} x w = taken-filled (claimOf t k s w .answer) (claim-claimable x w)
 
-pub claim-front-working : {n : ℕ} {k : ClassHeap} {t : Tables} → Fronted n k t → (w : ℕ) → Working n k (claimFront t k w)
+pub claim-front-filled :
+    {n : ℕ} {k : ClassHeap} {t : Tables} (x : Fronted n k t) (w : ℕ) → Filled (x .own .working .shape) (claimFront t k w)
 unfolding claimFront
-claim-front-working x w = claim-from-working (fold-own (x .own)) w
+claim-front-filled x w = claim-from-filled (fold-own (x .own)) w
+
+abbrev pub claim-front-working : {n : ℕ} {k : ClassHeap} {t : Tables} → Fronted n k t → (w : ℕ) → Working n k (claimFront t k w)
+claim-front-working x w = working-on (x .own .working) (claim-front-filled x w)
 
 -- ---- the steps by their tests
 

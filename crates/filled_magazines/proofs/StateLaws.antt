@@ -43,19 +43,19 @@ abbrev byTests : Bool → Bool → Bool → BlockState
 byTests a b c = cond a (cond b Pending (cond c Cached Out)) Free
 
 -- Two states differ.
-free-no-pending : Free ≡ Pending → ⊥
+pub free-no-pending : Free ≡ Pending → ⊥
 free-no-pending e = let z : _≡_ {A = ℕ} 0 1 = cc in omega arith
 
-free-no-cached : Free ≡ Cached → ⊥
+pub free-no-cached : Free ≡ Cached → ⊥
 free-no-cached e = let z : _≡_ {A = ℕ} 0 1 = cc in omega arith
 
-free-no-out : Free ≡ Out → ⊥
+pub free-no-out : Free ≡ Out → ⊥
 free-no-out e = let z : _≡_ {A = ℕ} 0 1 = cc in omega arith
 
-pending-no-cached : Pending ≡ Cached → ⊥
+pub pending-no-cached : Pending ≡ Cached → ⊥
 pending-no-cached e = let z : _≡_ {A = ℕ} 0 1 = cc in omega arith
 
-pending-no-out : Pending ≡ Out → ⊥
+pub pending-no-out : Pending ≡ Out → ⊥
 pending-no-out e = let z : _≡_ {A = ℕ} 0 1 = cc in omega arith
 
 pub cached-no-out : Cached ≡ Out → ⊥

@@ -15,7 +15,9 @@ use Rattle.tables.specs.Shape.{Shape, classHeap}
 use Rattle.tables.specs.Cells.{Tables, tables, occupiedAt, partialList, fullList, countAt, entrySpan, entrySlot}
 use Rattle.magazine.specs.Room.{Room}
 use Rattle.magazine.specs.Magazine.{topEntry, popEntry}
-use Rattle.span.specs.Span.{isFull, isEmpty, deallocSlot}
+use Rattle.magazine.proofs.MagazineLaws.{pop-count}
+use Rattle.linked_list.proofs.QuietLaws.{quiet-count}
+use Rattle.span.specs.Span.{stored, isFull, isEmpty, deallocSlot}
 use Rattle.class_heap.specs.Steps.{refile, giveBack, flushOne, flush}
 use Rattle.sound.specs.Sound.{homeOf}
 use Rattle.sound.specs.Filled.{Filled}
@@ -24,7 +26,8 @@ use Rattle.filled_magazines.proofs.MagazineSteps.{Loose, pop-entry-filled, popp
 use Rattle.filled_spans.proofs.SpanValues.{home-most}
 use Rattle.filled_spans.proofs.ReleaseKept.{release-only, release-kept, release-occupied}
 use Rattle.placing.specs.Working.{Working}
-use Rattle.placing.proofs.PlacingKept.{working-on, working-as, refile-working, refile-used}
+use Rattle.placing.proofs.PlacingQuiet.{refile-quiet}
+use Rattle.placing.proofs.PlacingKept.{working-on, working-as, refile-working}
 use Rattle.flushing.specs.Returnable.{Returnable}
 
 -- ---- one slot
@@ -36,7 +39,7 @@ module _ {n : ℕ} {k : ClassHeap} {t : Tables} {s q : ℕ} (r : Returnable n k 
   pub some-occupied : 0 < occupiedAt t s
   some-occupied = omega (arith, release-occupied (r .working .shape) t (r .working .filled) s (r .used) q (r .inside) (r .out))
 
-  pub dealloc-working : Working n k (deallocSlot t s q)
+  abbrev pub dealloc-working : Working n k (deallocSlot t s q)
   dealloc-working = working-on (r .working) (release-kept (r .working .shape) t (r .working .filled) s (r .used) q (r .inside) (r .out))
 
   pub dealloc-used : deallocSlot t s q .used ≡ t .used
@@ -45,15 +48,30 @@ module _ {n : ℕ} {k : ClassHeap} {t : Tables} {s q : ℕ} (r : Returnable n k 
   used-then : s < deallocSlot t s q .used
   used-then = rw dealloc-used (r .used)
 
-  pub give-back-working : Working n k (giveBack t k s q)
+  pub give-back-filled : Filled (r .working .shape) (giveBack t k s q)
   unfolding giveBack
-  give-back-working =
+  give-back-filled =
       let u = deallocSlot t s q in
-      cond-both (Working n k) (isFull t k s) (refile u k fullList s) (cond (isEmpty u s) (refile u k partialList s) u)
-      (λ e. refile-working dealloc-working (omega arith) used-then)
+      let P = Filled (r .working .shape) in
+      cond-both P (isFull t k s) (refile u k fullList s) (cond (isEmpty u s) (refile u k partialList s) u)
+      (λ e. refile-working dealloc-working (omega arith) used-then .filled)
       (λ e.
-      cond-both (Working n k) (isEmpty u s) (refile u k partialList s) u (λ d. refile-working dealloc-working (omega arith) used-then)
-      (λ d. dealloc-working))
+      cond-both P (isEmpty u s) (refile u k partialList s) u (λ d. refile-working dealloc-working (omega arith) used-then .filled)
+      (λ d. dealloc-working .filled))
+
+  abbrev pub give-back-working : Working n k (giveBack t k s q)
+  give-back-working = working-on (r .working) give-back-filled
+
+-- Every magazine's count is as it was.
+pub give-back-count : (t : Tables) (k : ClassHeap) (s q : ℕ) (j : ClassHeap) → countAt (giveBack t k s q) j ≡ countAt t j
+unfolding giveBack deallocSlot stored
+give-back-count t k s q j =
+    let u = deallocSlot t s q in
+    cond-both (λ v. countAt v j ≡ countAt t j) (isFull t k s) (refile u k fullList s) (cond (isEmpty u s) (refile u k partialList s) u)
+    (λ e. quiet-count (refile-quiet u k fullList (omega arith) s) j)
+    (λ e.
+    cond-both (λ v. countAt v j ≡ countAt t j) (isEmpty u s) (refile u k partialList s) u
+    (λ d. quiet-count (refile-quiet u k partialList (omega arith) s) j) (λ d. refl))
 
 -- ---- by its two tests
 
@@ -73,7 +91,7 @@ module _ (t t₁ t′ : Tables) (k : ClassHeap) (s q : ℕ) (p : t₁ ≡ deallo
 -- ---- the top entry
 
 -- An entry's slot is one of its span.
-loose-inside :
+pub loose-inside :
     (g : Shape) (t : Tables) (k : ClassHeap) (h c : ℕ) → k ≡ classHeap g h c → (e : ℕ) → Loose g t k e →
     entrySlot e < homeOf g t (entrySpan e) .slots
 loose-inside g t k h c named e m =
@@ -85,14 +103,14 @@ module _ {n : ℕ} {k : ClassHeap} {t : Tables} (w : Working n k t) where
   working-room = rw (w .named) (filled-room (w .filled) (w .inHeaps) (w .inClasses))
 
   module _ (some : 0 < countAt t k) where
-    popped-filled : Filled (w .shape) (popEntry t k)
+    pub popped-filled : Filled (w .shape) (popEntry t k)
     popped-filled = rw (w .named) (pop-entry-filled (w .filled) (w .inHeaps) (w .inClasses) (rw (w .named) at some))
 
-    top-loose : Loose (w .shape) (popEntry t k) k (topEntry t k)
+    pub top-loose : Loose (w .shape) (popEntry t k) k (topEntry t k)
     top-loose = rw (w .named) (popped-loose (w .filled) (w .inHeaps) (w .inClasses) (rw (w .named) at some))
 
     -- its block may go back to its span
-    pub top-returnable : Returnable n k (popEntry t k) (entrySpan (topEntry t k)) (entrySlot (topEntry t k))
+    abbrev pub top-returnable : Returnable n k (popEntry t k) (entrySpan (topEntry t k)) (entrySlot (topEntry t k))
     top-returnable =
         record {
           working = working-on w popped-filled;
@@ -105,9 +123,18 @@ module _ {n : ℕ} {k : ClassHeap} {t : Tables} (w : Working n k t) where
         (t₁ : Tables) (e s q : ℕ) → t₁ ≡ popEntry t k → e ≡ topEntry t k → s ≡ entrySpan e → q ≡ entrySlot e → Returnable n k t₁ s q
     popped-returnable t₁ e s q p o a b = rw (p, a, b, o) top-returnable
 
-    pub flush-one-working : Working n k (flushOne t k)
+    pub flush-one-filled : Filled (w .shape) (flushOne t k)
     unfolding flushOne
-    flush-one-working = give-back-working top-returnable
+    flush-one-filled = give-back-working top-returnable .filled
+
+    abbrev pub flush-one-working : Working n k (flushOne t k)
+    flush-one-working = working-on w flush-one-filled
+
+    -- One entry fewer is in the magazine.
+    pub flush-one-count : countAt (flushOne t k) k ≡ countAt t k - 1
+    unfolding flushOne
+    flush-one-count =
+        give-back-count (popEntry t k) k (entrySpan (topEntry t k)) (entrySlot (topEntry t k)) k ∙ pop-count t k working-room some
 
 pub flush-one-made :
     (t t₁ t′ : Tables) (k : ClassHeap) (e s q : ℕ) → e ≡ topEntry t k → s ≡ entrySpan e → q ≡ entrySlot e → t₁ ≡ popEntry t k →
@@ -133,12 +160,33 @@ flush-turn zero t k h l = absurd (omega arith)
 flush-turn (suc i) t k h l = simp (lt-ltb (k .low) (countAt t k) l, sub-one)
 
 -- Every flush keeps a working table working.
-pub flush-working : (i : ℕ) {n : ℕ} {k : ClassHeap} {t : Tables} → Working n k t → Working n k (flush i t k)
+pub flush-filled : (i : ℕ) {n : ℕ} {k : ClassHeap} {t : Tables} (w : Working n k t) → Filled (w .shape) (flush i t k)
 unfolding flush
-flush-working zero w = w
-flush-working (suc i) {n} {k} {t} w =
-    cond-both (Working n k) (ltb (k .low) (countAt t k)) (flush i (flushOne t k) k) t
-    (λ e. flush-working i (flush-one-working w (omega (arith, ltb-true (k .low) (countAt t k) e)))) (λ e. w)
+flush-filled zero w = w .filled
+flush-filled (suc i) {n} {k} {t} w =
+    cond-both (Filled (w .shape)) (ltb (k .low) (countAt t k)) (flush i (flushOne t k) k) t
+    (λ e. flush-filled i (flush-one-working w (omega (arith, ltb-true (k .low) (countAt t k) e)))) (λ e. w .filled)
+
+abbrev pub flush-working : (i : ℕ) {n : ℕ} {k : ClassHeap} {t : Tables} → Working n k t → Working n k (flush i t k)
+flush-working i w = working-on w (flush-filled i w)
+
+-- No flush adds an entry,
+pub flush-fewer : (i : ℕ) {n : ℕ} {k : ClassHeap} {t : Tables} → Working n k t → countAt (flush i t k) k ≤ countAt t k
+unfolding flush
+flush-fewer zero w = omega arith
+flush-fewer (suc i) {n} {k} {t} w =
+    cond-both (λ u. countAt u k ≤ countAt t k) (ltb (k .low) (countAt t k)) (flush i (flushOne t k) k) t
+    (λ e.
+    let some : 0 < countAt t k = omega (arith, ltb-true (k .low) (countAt t k) e) in
+    omega (arith, flush-fewer i (flush-one-working w some), flush-one-count w some))
+    (λ e. omega arith)
+
+-- and one that is not out of turns makes room in a magazine above low water.
+pub flush-makes-room :
+    (i : ℕ) {n : ℕ} {k : ClassHeap} {t : Tables} → 0 < i → Working n k t → k .low < countAt t k → countAt (flush i t k) k < countAt t k
+flush-makes-room i {n} {k} {t} h w l =
+    let some : 0 < countAt t k = omega (arith, l) in
+    rw (flush-turn i t k h l) (omega (arith, flush-fewer (i - 1) (flush-one-working w some), flush-one-count w some))
 
 pub record Flushing (k : ClassHeap) (b₀ sp₀ e hd₀ b sp hd : List ℕ) (left : ℕ) : Type 0 where
   pub limit : ℕ

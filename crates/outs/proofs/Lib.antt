@@ -1,1 +1,2 @@
 pub mod OutsLaws
+pub mod FillsLaws

@@ -1,5 +1,5 @@
 -- The steps that place a span keep links in range, and a working table working. Assumes nothing.
-use mathlib.Core.Path.{_≡_, refl}
+use mathlib.Core.Path.{_≡_}
 use mathlib.Core.Bool.{Bool, true, false, cond}
 use Prim.Native.Nat.{ℕ, _+_, _-_, _<_, _≤_}
 use native.Mathlib.Omega.{arith}
@@ -57,30 +57,7 @@ module _ {g : Shape} {h c : ℕ} (hh : h < g .heaps) (hc : c < classes g) where
       push-filled (front-filled o hh hc (omega arith) (omega arith)) hh hc (omega arith)
       (omega (arith, eqb-false (headAt t (classHeap g h c) reserve) 0 e, o .fronts h hh c hc reserve (omega arith))))
 
--- ---- spans used stay
-
-module _ (t : Tables) (k : ClassHeap) where
-  pub demote-used : (x : ℕ) → demote t k x .used ≡ t .used
-  unfolding demote push
-  demote-used x = cond-both (λ u. u .used ≡ t .used) (eqb x 0) t (push t k emptyList (x - 1)) (λ e. refl) (λ e. refl)
-
-pub release-used : (t : Tables) (k : ClassHeap) (s : ℕ) → releaseEmpty t k s .used ≡ t .used
-unfolding releaseEmpty
-release-used t k s = demote-used (setHead t k reserve (s + 1)) k (headAt t k reserve)
-
-pub place-used : (t : Tables) (k : ClassHeap) (s : ℕ) → place t k s .used ≡ t .used
-unfolding place push
-place-used t k s =
-    cond-both (λ u. u .used ≡ t .used) (isEmpty t s) (releaseEmpty t k s) (cond (isFull t k s) (push t k fullList s) (push t k partialList s))
-    (λ e. release-used t k s)
-    (λ e.
-    cond-both (λ u. u .used ≡ t .used) (isFull t k s) (push t k fullList s) (push t k partialList s) (λ d. refl) (λ d. refl))
-
-pub refile-used : (t : Tables) (k : ClassHeap) (f s : ℕ) → refile t k f s .used ≡ t .used
-unfolding refile remove
-refile-used t k f s = place-used (remove t k f s) k s
-
--- ---- the same of a working table, whose class of a heap has a name
+-- ---- the same of a working table, whose class of a heap has a name; its shape stays
 
 module _ {n : ℕ} {k : ClassHeap} {t : Tables} (w : Working n k t) where
   -- Another filled table of the same shape.
@@ -102,16 +79,16 @@ module _ {n : ℕ} {k : ClassHeap} {t : Tables} (w : Working n k t) where
   pub working-links : Links (t .used) (t .spans) (t .heads) (k .row)
   working-links = rw (w .named) (filled-links (w .filled) (w .inHeaps) (w .inClasses))
 
-  pub push-working : {f s : ℕ} → f ≤ reserve → s < t .used → Working n k (push t k f s)
+  abbrev pub push-working : {f s : ℕ} → f ≤ reserve → s < t .used → Working n k (push t k f s)
   push-working hf l = working-on (rw (w .named) (push-filled (w .filled) (w .inHeaps) (w .inClasses) hf l))
 
-  pub remove-working : {f s : ℕ} → f ≤ reserve → s < t .used → Working n k (remove t k f s)
+  abbrev pub remove-working : {f s : ℕ} → f ≤ reserve → s < t .used → Working n k (remove t k f s)
   remove-working hf l = working-on (rw (w .named) (remove-filled (w .filled) (w .inHeaps) (w .inClasses) hf l))
 
-  pub refile-working : {f s : ℕ} → f ≤ reserve → s < t .used → Working n k (refile t k f s)
+  abbrev pub refile-working : {f s : ℕ} → f ≤ reserve → s < t .used → Working n k (refile t k f s)
   refile-working hf l = working-on (rw (w .named) (refile-filled (w .inHeaps) (w .inClasses) (w .filled) hf l))
 
-  pub reactivate-working : 0 < headAt t k reserve + headAt t k emptyList → Working n k (reactivate t k)
+  abbrev pub reactivate-working : 0 < headAt t k reserve + headAt t k emptyList → Working n k (reactivate t k)
   reactivate-working l = working-on (rw (w .named) (reactivate-filled (w .inHeaps) (w .inClasses) (w .filled) (rw (w .named) at l)))
 
 -- A table that equals a working one is one.

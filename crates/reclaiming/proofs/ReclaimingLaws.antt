@@ -15,10 +15,12 @@ use Rattle.span.specs.Room.{SpanCells, Foldable}
 use Rattle.span.specs.Span.{hasPending, reclaimPending}
 use Rattle.class_heap.specs.Steps.{refile, reclaimOne, reclaim}
 use Rattle.sound.specs.Sound.{homeOf}
+use Rattle.sound.specs.Filled.{Filled}
 use Rattle.filled_spans.proofs.SpanValues.{filled-cells, filled-foldable}
 use Rattle.filled_spans.proofs.ReclaimKept.{reclaim-only, reclaim-kept}
 use Rattle.placing.specs.Working.{Working}
-use Rattle.placing.proofs.PlacingKept.{working-on, working-links, refile-working, refile-used}
+use Rattle.placing.proofs.PlacingQuiet.{refile-quiet}
+use Rattle.placing.proofs.PlacingKept.{working-on, working-links, refile-working}
 
 -- What a working table gives a used span of it.
 module _ {n : ℕ} {k : ClassHeap} {t : Tables} (w : Working n k t) {s : ℕ} (l : s < t .used) where
@@ -28,14 +30,18 @@ module _ {n : ℕ} {k : ClassHeap} {t : Tables} (w : Working n k t) {s : ℕ} (l
   pub working-foldable : ((slots : ℕ) × Foldable slots (t .bits) (t .spans) s)
   working-foldable = (homeOf (w .shape) t s .slots, filled-foldable (w .shape) t (w .filled) s l)
 
-  pub pending-working : Working n k (reclaimPending t s)
+  abbrev pub pending-working : Working n k (reclaimPending t s)
   pending-working = working-on w (reclaim-kept (w .shape) t (w .filled) s l)
 
-  pub reclaim-one-working : Working n k (reclaimOne t k s)
+  pub reclaim-one-filled : Filled (w .shape) (reclaimOne t k s)
   unfolding reclaimOne
-  reclaim-one-working =
-      cond-both (Working n k) (hasPending t s) (refile (reclaimPending t s) k fullList s) t
-      (λ e. refile-working pending-working (omega arith) (rw (reclaim-only (w .shape) t (w .filled) s l .used) l)) (λ e. w)
+  reclaim-one-filled =
+      cond-both (Filled (w .shape)) (hasPending t s) (refile (reclaimPending t s) k fullList s) t
+      (λ e. refile-working pending-working (omega arith) (rw (reclaim-only (w .shape) t (w .filled) s l .used) l) .filled)
+      (λ e. w .filled)
+
+  abbrev pub reclaim-one-working : Working n k (reclaimOne t k s)
+  reclaim-one-working = working-on w reclaim-one-filled
 
   pub pending-used : reclaimPending t s .used ≡ t .used
   pending-used = reclaim-only (w .shape) t (w .filled) s l .used
@@ -44,7 +50,7 @@ module _ {n : ℕ} {k : ClassHeap} {t : Tables} (w : Working n k t) {s : ℕ} (l
   unfolding reclaimOne
   reclaim-one-used =
       cond-both (λ u. u .used ≡ t .used) (hasPending t s) (refile (reclaimPending t s) k fullList s) t
-      (λ e. refile-used (reclaimPending t s) k fullList s ∙ pending-used) (λ e. refl)
+      (λ e. refile-quiet (reclaimPending t s) k fullList (omega arith) s .used ∙ pending-used) (λ e. refl)
 
 -- ---- one span, by its test
 
@@ -77,14 +83,19 @@ reclaim-turn zero t k x h e = absurd (omega arith)
 reclaim-turn (suc n) t k x h e = simp (ne-eqb x 0 e, sub-one)
 
 -- The walk keeps a working table working, from a link in range on.
-pub reclaim-working : (i : ℕ) {n : ℕ} {k : ClassHeap} {t : Tables} (x : ℕ) → Working n k t → x ≤ t .used → Working n k (reclaim i t k x)
+pub reclaim-filled :
+    (i : ℕ) {n : ℕ} {k : ClassHeap} {t : Tables} (x : ℕ) (w : Working n k t) → x ≤ t .used → Filled (w .shape) (reclaim i t k x)
 unfolding reclaim
-reclaim-working zero x w l = w
-reclaim-working (suc i) {n} {k} {t} x w l =
-    cond-both (Working n k) (eqb x 0) t (reclaim i (reclaimOne t k (x - 1)) k (nextAt t (x - 1))) (λ e. w)
+reclaim-filled zero x w l = w .filled
+reclaim-filled (suc i) {n} {k} {t} x w l =
+    cond-both (Filled (w .shape)) (eqb x 0) t (reclaim i (reclaimOne t k (x - 1)) k (nextAt t (x - 1))) (λ e. w .filled)
     (λ e.
     let h : x - 1 < t .used = omega (arith, eqb-false x 0 e) in
-    reclaim-working i (nextAt t (x - 1)) (reclaim-one-working w h) (rw (reclaim-one-used w h) (w .filled .next (x - 1) h)))
+    reclaim-filled i (nextAt t (x - 1)) (reclaim-one-working w h) (rw (reclaim-one-used w h) (w .filled .next (x - 1) h)))
+
+abbrev pub reclaim-working :
+    (i : ℕ) {n : ℕ} {k : ClassHeap} {t : Tables} (x : ℕ) → Working n k t → x ≤ t .used → Working n k (reclaim i t k x)
+reclaim-working i x w l = working-on w (reclaim-filled i x w l)
 
 -- ---- the loop
 

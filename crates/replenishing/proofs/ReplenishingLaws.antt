@@ -31,7 +31,7 @@ unfolding newSpan
 new-used t k = refl
 
 module _ {n : ℕ} {k : ClassHeap} {t : Tables} (w : Working n k t) (l : t .used < n) where
-  unused : t .used < w .shape .spans
+  pub unused : t .used < w .shape .spans
   unused = omega (arith, l, w .limited)
 
   pub unused-cells : SpanCells (t .bits) (t .spans) (t .used)
@@ -40,12 +40,15 @@ module _ {n : ℕ} {k : ClassHeap} {t : Tables} (w : Working n k t) (l : t .used
   pub few-slots : k .slots ≤ 4096
   few-slots = rw (w .named) (class-within (w .shape) (w .heap) (w .class))
 
-  pub new-working : Working n k (newSpan t k)
+  abbrev pub new-working : Working n k (newSpan t k)
   new-working = working-on w (rw (w .named) (new-kept (w .shape) t (w .filled) unused (w .heap) (w .class) (w .inHeaps) (w .inClasses)))
 
-  pub create-working : Working n k (create t k)
+  pub create-filled : Filled (w .shape) (create t k)
   unfolding create
-  create-working = push-working new-working (omega arith) (omega (arith, new-used t k))
+  create-filled = push-working new-working {f = partialList} {s = t .used} (omega arith) (omega (arith, new-used t k)) .filled
+
+  abbrev pub create-working : Working n k (create t k)
+  create-working = working-on w create-filled
 
 -- ---- the same steps, by their tests
 
@@ -100,21 +103,29 @@ module _ (limit : ℕ) (t : Tables) (k : ClassHeap) where
 -- ---- what they keep
 
 module _ {limit : ℕ} {k : ClassHeap} {t : Tables} (w : Working limit k t) where
-  pub supply-working : Working limit k (supply limit t k)
+  pub supply-filled : Filled (w .shape) (supply limit t k)
   unfolding supply
-  supply-working =
-      cond-both (Working limit k) (noPartial t k) (cond (noneEmpty t k) (cond (ltb (t .used) limit) (create t k) t) (reactivate t k)) t
+  supply-filled =
+      let P = Filled (w .shape) in
+      cond-both P (noPartial t k) (cond (noneEmpty t k) (cond (ltb (t .used) limit) (create t k) t) (reactivate t k)) t
       (λ e.
-      cond-both (Working limit k) (noneEmpty t k) (cond (ltb (t .used) limit) (create t k) t) (reactivate t k)
-      (λ d. cond-both (Working limit k) (ltb (t .used) limit) (create t k) t (λ l. create-working w (ltb-true (t .used) limit l)) (λ l. w))
-      (λ d. reactivate-working w (some-empty t k d)))
-      (λ e. w)
+      cond-both P (noneEmpty t k) (cond (ltb (t .used) limit) (create t k) t) (reactivate t k)
+      (λ d.
+      cond-both P (ltb (t .used) limit) (create t k) t (λ l. create-working w (ltb-true (t .used) limit l) .filled) (λ l. w .filled))
+      (λ d. reactivate-working w (some-empty t k d) .filled))
+      (λ e. w .filled)
 
-  pub reclaimed-working : Working limit k (reclaim (t .used) t k (headAt t k fullList))
+  abbrev pub supply-working : Working limit k (supply limit t k)
+  supply-working = working-on w supply-filled
+
+  abbrev pub reclaimed-working : Working limit k (reclaim (t .used) t k (headAt t k fullList))
   reclaimed-working = reclaim-working (t .used) (headAt t k fullList) w (working-links w .fronts fullList (omega arith))
 
-pub replenish-working : {limit : ℕ} {k : ClassHeap} {t : Tables} → Working limit k t → Working limit k (replenish limit t k)
+pub replenish-filled : {limit : ℕ} {k : ClassHeap} {t : Tables} (w : Working limit k t) → Filled (w .shape) (replenish limit t k)
 unfolding replenish
-replenish-working {limit} {k} {t} w =
-    cond-both (Working limit k) (noPartial t k) (supply limit (reclaim (t .used) t k (headAt t k fullList)) k) t
-    (λ e. supply-working (reclaimed-working w)) (λ e. w)
+replenish-filled {limit} {k} {t} w =
+    cond-both (Filled (w .shape)) (noPartial t k) (supply limit (reclaim (t .used) t k (headAt t k fullList)) k) t
+    (λ e. supply-working (reclaimed-working w) .filled) (λ e. w .filled)
+
+abbrev pub replenish-working : {limit : ℕ} {k : ClassHeap} {t : Tables} → Working limit k t → Working limit k (replenish limit t k)
+replenish-working w = working-on w (replenish-filled w)
