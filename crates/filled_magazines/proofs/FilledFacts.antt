@@ -8,7 +8,7 @@ use Rattle.size_classes.specs.SlotSizes.{slotSize}
 use Rattle.size_classes.specs.Slots.{mostSlots, fewestSlots}
 use Rattle.size_classes.proofs.SlotTheorems.{slots-fewest, slots-most}
 use Rattle.magazine_layout.specs.Layout.{mostCapacity}
-use Rattle.magazine_layout.proofs.LayoutLaws.{capacity-positive, capacity-most, low-below}
+use Rattle.magazine_layout.proofs.LayoutLaws.{capacity-positive, capacity-most, low-below, capacity-slots}
 use Rattle.tables.specs.Shape.{Shape, classes, recordCells, classHeap}
 use Rattle.tables.specs.Stated.{Stated, RightShape, RightLengths}
 use Rattle.tables.specs.Cells.{Tables, countAt, entryAt, entryOf, entrySpan, entrySlot}
@@ -50,6 +50,11 @@ module _ (g : Shape) (h c : ℕ) where
   pub capacity-within : classHeap g h c .capacity ≤ mostCapacity
   unfolding classHeap
   capacity-within = capacity-most (slotSize (g .sizes) c)
+
+  -- And no more than a span has slots.
+  pub capacity-in-span : classHeap g h c .capacity ≤ classHeap g h c .slots
+  unfolding classHeap
+  capacity-in-span = capacity-slots (slotSize (g .sizes) c)
 
   -- Low water is below the capacity, so a magazine at low water or below has room, and a full one is above it.
   pub low-under : classHeap g h c .low < classHeap g h c .capacity

@@ -45,6 +45,31 @@ listed-as {IsList} {Single} {used} {used′} {previous} {next} {head} {previous�
       alone = λ s i o. en s i ∙ l .alone s i o;
     }
 
+-- the same lists where a home changes from one that names no list to another
+pub listed-homes :
+    {IsList Single : ℕ → Type 0} {used : ℕ} {previous next head home home′ rank : ℕ → ℕ} →
+    ((s : ℕ) → IsList (home s) → home′ s ≡ home s) → ((s : ℕ) → IsList (home′ s) → home′ s ≡ home s) →
+    Listed IsList Single used previous next head home rank → Listed IsList Single used previous next head home′ rank
+listed-homes {IsList} {Single} {used} {previous} {next} {head} {home} {home′} {rank} on back l =
+    let was : (s : ℕ) → IsList (home′ s) → IsList (home s) = λ s i. subst IsList (back s i) i in
+    record {
+      within = λ s i. l .within s (was s i);
+      after =
+          λ s y i e.
+          let o : After previous home rank s y = l .after s y (was s i) e in
+          record { back = o .back; same = on y (rw (o .same) (was s i)) ∙ o .same ∙ sym (back s i); lower = o .lower };
+      before =
+          λ s y i e.
+          let o : Before next home s y = l .before s y (was s i) e in
+          record { on = o .on; same = on y (rw (o .same) (was s i)) ∙ o .same ∙ sym (back s i) };
+      first = λ s i e. ap head (back s i) ∙ l .first s (was s i) e;
+      front =
+          λ c s i e.
+          let o : Front previous home c s = l .front c s i e in
+          record { top = o .top; mine = on s (rw (o .mine) i) ∙ o .mine };
+      alone = λ s i o. l .alone s (was s i) (subst Single (back s i) o);
+    }
+
 module _ {IsList Single : ℕ → Type 0} {used : ℕ} {previous next head previous′ next′ head′ home rank : ℕ → ℕ} {h a : ℕ} (l : Listed IsList Single used previous next head home rank) where
   module _ (p : Pushed previous next head previous′ next′ head′ h a) (u : a < used) (out : IsList (home a) → ⊥) (cell : IsList h) (one : Single h → head h ≡ 0) where
     -- the homes after the push

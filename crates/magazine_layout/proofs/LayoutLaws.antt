@@ -1,14 +1,16 @@
 -- Capacities and where magazines stand, over any list of slot sizes: no two of a heap meet, and all are within its entries. Assumes nothing.
 use mathlib.Core.Path.{_≡_, refl}
 use mathlib.Core.List.{List}
-use Prim.Native.Nat.{ℕ, zero, suc, _+_, _*_, _<_, _≤_}
-use native.Mathlib.Nat.{mul-le-mul-right}
+use Prim.Native.Nat.{ℕ, zero, suc, _+_, _*_, _/_, _<_, _≤_}
+use native.Mathlib.Nat.{mul-le-mul-right, div-mul-le-self, le-div-iff-mul-le}
+use native.Mathlib.Decide.{ℕ-discrete}
 use native.Mathlib.Omega.{arith}
 use lib.ListN.{length}
 use Rattle.laws.specs.Choice.{sum}
 use Rattle.laws.proofs.SumSteps.{sum-next, sum-through, sum-apart}
-use Rattle.size_classes.specs.SlotSizes.{slotSize, Admissible, mostClasses}
-use Rattle.magazine_layout.specs.Layout.{leastCapacity, mostCapacity, capacityFor, lowWaterFor, magazineOffset, entriesPerHeap}
+use Rattle.size_classes.specs.SlotSizes.{largestSlot, slotSize, Admissible, mostClasses}
+use Rattle.size_classes.specs.Slots.{mostSlots, fewestSlots, slotsPerSpan}
+use Rattle.magazine_layout.specs.Layout.{magazineBytes, leastCapacity, mostCapacity, capacityFor, lowWaterFor, magazineOffset, entriesPerHeap}
 
 -- A capacity is held to its bounds.
 pub capacity-least : (slot : ℕ) → leastCapacity ≤ capacityFor slot
@@ -26,6 +28,18 @@ low-below slot = omega (arith, capacity-least slot)
 
 pub capacity-positive : (slot : ℕ) → 0 < capacityFor slot
 capacity-positive slot = omega (arith, low-below slot)
+
+-- A span has at least as many slots as a magazine has entries: both are held to the same least, and a span has more bytes.
+pub capacity-slots : (slot : ℕ) → capacityFor slot ≤ slotsPerSpan slot
+unfolding capacityFor slotsPerSpan leastCapacity mostCapacity magazineBytes fewestSlots mostSlots largestSlot
+capacity-slots slot = go (ℕ-discrete slot 0)
+  where
+    go : Dec (slot ≡ 0) → capacityFor slot ≤ slotsPerSpan slot
+    go (yes e) = rw e (omega arith)
+    go (no n) =
+        let q : magazineBytes / slot ≤ largestSlot / slot =
+        le-div-iff-mul-le {k = slot} {x = magazineBytes / slot} {y = largestSlot} (omega arith) .1 (omega (arith, div-mul-le-self magazineBytes slot)) in
+        omega arith
 
 module _ (sizes : List ℕ) where
   -- The first magazine begins at 0, and each other one where the one before it ends.
