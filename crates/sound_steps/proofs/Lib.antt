@@ -1,1 +1,5 @@
 pub mod ReclaimSteps
+pub mod ReplenishSteps
+pub mod ClaimSteps
+pub mod RefillSteps
+pub mod FlushSteps
