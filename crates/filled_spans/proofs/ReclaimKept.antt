@@ -8,14 +8,17 @@ use native.Mathlib.Nat.{add-zero}
 use native.Mathlib.Decide.{ℕ-discrete}
 use native.Mathlib.Omega.{arith}
 use lib.Dec.{eqb, leb}
+use lib.Count.{trailingZeros}
 use lib.ListN.{getD}
-use borrow.Author.Tests.{leb-false, eqb-true}
+use borrow.Author.Tests.{leb-true, leb-false, eq-eqb, eqb-true}
 use Rattle.laws.specs.Choice.{sum}
 use Rattle.laws.specs.Word.{isSet, popcount}
 use Rattle.laws.proofs.CondLaws.{and-true, cond-both}
 use Rattle.laws.proofs.FirstLaws.{tested}
 use Rattle.laws.proofs.SumLaws.{sum-same, sum-none}
-use Rattle.laws.proofs.WordLaws.{ones-none}
+use Rattle.laws.proofs.SumSteps.{sum-through}
+use Rattle.laws.proofs.BitLaws.{trailing-at}
+use Rattle.laws.proofs.WordLaws.{ones-none, ones-some}
 use Rattle.size_classes.specs.Slots.{mostSlots}
 use Rattle.occupancy.specs.declared.Occupancy.{Occupancy}
 use Rattle.occupancy.specs.Occupied.{foldIn}
@@ -141,6 +144,22 @@ module _ (g : Shape) (t : Tables) (f : Filled g t) (s : ℕ) (h : s < t .used) w
       ∙ fold-count (homeOf g t s .slots) (pendingWords t s) (loaded t s) (filled-right g t f s h) (filled-pending g t f s h)
 
   -- ---- the same, where there are any
+
+  -- With a set summary some slot is pending, so the fold lowers the count.
+  pub pending-some : hasPending t s ≡ true → 0 < pendingCount t s
+  pending-some e =
+      let x = bitmapWord t s remoteSummary in
+      let c = f .spans s h in
+      let set = trailing-at 64 x (omega (arith, leb-true 1 x e)) (c .word remoteSummary (summaries-in (omega arith))) in
+      let i = trailingZeros 64 x in
+      let word = bitmapWord t s (remoteWord i) in
+      let some : not (eqb word 0) ≡ true = sym (c .remote i (set .0)) ∙ ap (λ (z : ℕ). eqb z 1) (set .1) in
+      let none : word ≡ 0 → ⊥ = λ z. true≢false (sym some ∙ ap not (eq-eqb word 0 z)) in
+      omega (
+        arith,
+        ones-some 64 word (c .word (remoteWord i) (remote-in (set .0))) none,
+        sum-through (λ j. popcount (bitmapWord t s (remoteWord j))) i 64 (set .0),
+      )
 
   -- With a clear summary no word is pending, and no slot.
   unset-word : hasPending t s ≡ false → (i : ℕ) → i < 64 → bitmapWord t s (remoteWord i) ≡ 0
