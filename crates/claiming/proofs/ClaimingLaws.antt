@@ -30,26 +30,17 @@ use Rattle.filled_magazines.proofs.MagazineSteps.{Loose, block-loose}
 use Rattle.filled_magazines.proofs.PushesSteps.{Pushable, push-entries-filled}
 use Rattle.filled_spans.proofs.SpanValues.{home-most, filled-right}
 use Rattle.filled_spans.proofs.FilledKept.{only-belongs}
-use Rattle.filled_spans.proofs.ClaimKept.{InMask, claimedOf, claim-only, claim-kept, claim-inside, claim-states}
+use Rattle.filled_spans.proofs.ClaimKept.{claimedOf, claim-only, claim-kept, claim-inside, claim-states}
 use Rattle.filled_spans.proofs.ReclaimKept.{folded-only, folded-kept}
 use Rattle.placing.specs.Working.{Working}
 use Rattle.placing.proofs.PlacingKept.{working-on, push-working, remove-working}
 use Rattle.reclaiming.proofs.ReclaimingLaws.{working-cells, working-foldable}
 use Rattle.claiming.specs.Claimable.{Claimable, Own, Fronted}
-use Rattle.claiming.proofs.BitsListed.{BitOf, bits-at, bits-apart, bits-length}
+use Rattle.claiming.proofs.BitsListed.{bits-apart, bits-length}
+use Rattle.claiming.proofs.ClaimedEntries.{MaskEntry, claimed-entry}
 
 -- ---- the slots of a claim are out, of the class and heap, and fit in
 
--- A slot of word i, by its bit.
-slot-in : (i mask b : ℕ) → b < 64 → (i * 64 + b) / 64 ≡ i
-slot-in i mask b l = omega arith
-
-slot-bit : (i b : ℕ) → b < 64 → (i * 64 + b) % 64 ≡ b
-slot-bit i b l = omega arith
-
-entry-plus : (s a b : ℕ) → entryOf s a + b ≡ entryOf s (a + b)
-unfolding entryOf
-entry-plus s a b = omega arith
 
 module _ (g : Shape) (t : Tables) (o : Filled g t) (h c : ℕ) (s : ℕ) (own : Belongs t (classHeap g h c) s) (m w i mask : ℕ)
     (e : claim (loaded t s) m w .answer ≡ Taken i mask) where
@@ -63,19 +54,13 @@ module _ (g : Shape) (t : Tables) (o : Filled g t) (h c : ℕ) (s : ℕ) (own : 
   unfolding claimedEntries
   claim-few = rw (bits-length 64 (entryOf s (i * 64)) mask, took .number) (omega arith)
 
-  bit-loose : (b : ℕ) → InMask i mask (i * 64 + b) → Loose g (stored t s (claimedOf t s m w)) (classHeap g h c) (entryOf s (i * 64 + b))
-  bit-loose b n =
-      let inside = claim-inside g t o s (own .used) m w i mask e (i * 64 + b) n in
-      block-loose g (stored t s (claimedOf t s m w)) h c s (only-belongs (claim-only g t o s (own .used) m w) (classHeap g h c) s own)
+  entry-loose : (y : ℕ) → MaskEntry s i mask y → Loose g (stored t s (claimedOf t s m w)) (classHeap g h c) y
+  entry-loose y n =
+      let inside = claim-inside g t o s (own .used) m w i mask e (n .slot) (n .inMask) in
+      rw (n .is)
+      (block-loose g (stored t s (claimedOf t s m w)) h c s (only-belongs (claim-only g t o s (own .used) m w) (classHeap g h c) s own)
       (rw (sym (belongs-home g t h c s own)) inside)
-      (claim-states g t o s (own .used) m w i mask e .named (i * 64 + b) (omega (arith, inside, home-most g t s)) n)
-
-  entry-loose :
-      (y : ℕ) → BitOf 64 (entryOf s (i * 64)) mask y → Loose g (stored t s (claimedOf t s m w)) (classHeap g h c) y
-  entry-loose y b =
-      rw (b .place ∙ entry-plus s (i * 64) (b .bit))
-      (bit-loose (b .bit)
-      (record { word = slot-in i mask (b .bit) (b .below); bit = rw (slot-bit i (b .bit) (b .below)) (b .isOne) }))
+      (claim-states g t o s (own .used) m w i mask e .named (n .slot) (omega (arith, inside, home-most g t s)) (n .inMask)))
 
   pub claimed-pushable :
       countAt t (classHeap g h c) + m ≤ classHeap g h c .capacity →
@@ -83,7 +68,7 @@ module _ (g : Shape) (t : Tables) (o : Filled g t) (h c : ℕ) (s : ℕ) (own : 
   unfolding claimedEntries stored
   claimed-pushable l =
       record {
-        loose = λ j d. entry-loose _ (bits-at 64 (entryOf s (i * 64)) mask j d);
+        loose = λ j d. entry-loose _ (claimed-entry s i mask j d);
         distinct = λ j d a f. bits-apart 64 (entryOf s (i * 64)) mask j d a f;
         fits = omega (arith, l, claim-few);
       }

@@ -1,2 +1,3 @@
 pub mod BitsListed
+pub mod ClaimedEntries
 pub mod ClaimingLaws

@@ -36,7 +36,7 @@ module _ {limit : ℕ} {k : ClassHeap} {t : Tables} (ws : List ℕ) (w : Working
   pub first-working : Fronts (k .capacity) limit t k ws 0 → Working limit k (refillFirst limit t k ws .table)
   unfolding refillFirst
   first-working f =
-      cond-both (λ (r : Refilled). Working limit k (r .table)) (needsRefill t k) _ _ (λ e. refill-working (k .capacity) ws 0 w f) (λ e. w)
+      cond-both (λ (r : Refilled). Working limit k (r .table)) (needsRefill t k) _ _ (λ e. refill-working (k .capacity) w ws 0 f) (λ e. w)
 
 -- It uses no more words than the magazine holds entries.
 pub first-words : (limit : ℕ) (t : Tables) (k : ClassHeap) (ws : List ℕ) → refillFirst limit t k ws .words ≤ k .capacity

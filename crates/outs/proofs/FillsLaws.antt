@@ -24,7 +24,7 @@ use Rattle.class_heap.specs.Steps.{refile, reclaimOne, reclaim, reactivate, cre
 use Rattle.sound.specs.Sound.{homeOf}
 use Rattle.sound.specs.Filled.{Filled}
 use Rattle.filled_magazines.proofs.StateLaws.{free-no-pending, free-no-out, pending-no-cached, pending-no-out, cached-no-out}
-use Rattle.filled_magazines.proofs.ListSteps.{quiet-spans, quiet-state}
+use Rattle.filled_magazines.proofs.ListSteps.{quiet-state}
 use Rattle.filled_spans.proofs.SpanValues.{home-most}
 use Rattle.filled_spans.proofs.BlockStates.{Becomes}
 use Rattle.filled_spans.proofs.FilledKept.{OnlyOccupancy}
@@ -36,7 +36,7 @@ use Rattle.placing.proofs.PlacingKept.{working-links}
 use Rattle.reclaiming.proofs.ReclaimingLaws.{reclaim-one-working, reclaim-one-used}
 use Rattle.replenishing.proofs.ReplenishingLaws.{reclaimed-working}
 use Rattle.outs.specs.Outs.{IsOut, SameSpans, SameOuts}
-use Rattle.outs.proofs.OutsLaws.{spans-same, spans-then, unmoved-spans, occupancy-spans, spans-home, out-after, out-before, out-within}
+use Rattle.outs.proofs.OutsLaws.{spans-same, spans-then, quiet-spans, occupancy-spans, spans-home, out-after, out-before, out-within}
 
 -- ---- one block
 
@@ -123,7 +123,7 @@ fills-by a n f = record { spans = a; old = f; new = λ s q l m h e. omega (arith
 
 -- A step of links and fronts changes no state.
 pub quiet-fills : {t u : Tables} → Quiet t u → (g : Shape) → Fills g t u
-quiet-fills q g = fills-by (unmoved-spans (quiet-spans q)) (q .used) (λ x y l m. settled-same (quiet-state q g x y))
+quiet-fills q g = fills-by (quiet-spans q) (q .used) (λ x y l m. settled-same (quiet-state q g x y))
 
 pub quiet-outs : {t u : Tables} → Quiet t u → (g : Shape) → SameOuts g t u
 quiet-outs q g = fills-outs (quiet-fills q g)

@@ -1,2 +1,5 @@
 pub mod OutsLaws
 pub mod FillsLaws
+pub mod ClaimFills
+pub mod BlockOuts
+pub mod CallOuts

@@ -9,11 +9,13 @@ use Rattle.size_classes.specs.Slots.{mostSlots}
 use Rattle.tables.specs.declared.ClassHeap.{ClassHeap}
 use Rattle.tables.specs.Shape.{Shape, classHeap}
 use Rattle.tables.specs.Cells.{Tables, spanField, classField, ownerField, occupiedField, nextField}
+use Rattle.magazine.specs.Held.{OnlyMagazine}
+use Rattle.linked_list.specs.Quiet.{Quiet}
+use Rattle.linked_list.proofs.QuietLaws.{quiet-class, quiet-owner}
 use Rattle.span.specs.declared.BlockState.{BlockState}
 use Rattle.span.specs.declared.BlockState.the-variants.{Out}
 use Rattle.span.specs.State.{stateOf}
 use Rattle.sound.specs.Sound.{homeOf, Belongs}
-use Rattle.filled_magazines.proofs.SameSpans as unmoved
 use Rattle.filled_magazines.proofs.Becomes.{Becomes}
 use Rattle.filled_spans.proofs.SpanValues.{home-most}
 use Rattle.filled_spans.proofs.FilledKept.{OnlyOccupancy}
@@ -33,9 +35,13 @@ spans-then a b =
       owner = λ s l. b .owner s (lt-of-lt-of-le l (a .used)) ∙ a .owner s l;
     }
 
--- A step of links, fronts or a magazine.
-pub unmoved-spans : {t u : Tables} → unmoved.SameSpans t u → SameSpans t u
-unmoved-spans m = record { used = rw (m .used) (omega arith); class = λ s l. m .class s; owner = λ s l. m .owner s }
+-- A step of links and fronts.
+pub quiet-spans : {t u : Tables} → Quiet t u → SameSpans t u
+quiet-spans q = record { used = rw (q .used) (omega arith); class = λ s l. quiet-class q s; owner = λ s l. quiet-owner q s }
+
+-- A step of one magazine.
+pub magazine-spans : {t u : Tables} {k : ClassHeap} → OnlyMagazine t u k → SameSpans t u
+magazine-spans m = record { used = rw (m .used) (omega arith); class = λ s l. rw (m .spans); owner = λ s l. rw (m .spans) }
 
 -- A step of the occupancy of one span.
 pub occupancy-spans : {t u : Tables} {a : ℕ} → OnlyOccupancy t u a → SameSpans t u

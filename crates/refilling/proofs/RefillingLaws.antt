@@ -8,15 +8,16 @@ use native.Mathlib.Omega.{arith}
 use borrow.Author.Tests.{eq-eqb, ne-eqb, eqb-false, lt-ltb, le-ltb, ltb-true}
 use lib.ListN.{length, getD}
 use lib.Dec.{eqb, ltb}
+use Rattle.laws.proofs.CondLaws.{cond-both}
 use Rattle.magazine_layout.specs.Layout.{mostCapacity}
 use Rattle.tables.specs.declared.ClassHeap.{ClassHeap}
 use Rattle.tables.specs.Cells.{Tables, tables, headAt, partialList, countAt}
-use Rattle.laws.proofs.CondLaws.{cond-both}
 use Rattle.class_heap.specs.Steps.{noPartial, replenish, claimFront, refill, refilled, Refilled}
 use Rattle.sound.specs.Sound.{Belongs}
+use Rattle.sound.specs.Filled.{Filled}
 use Rattle.filled_magazines.proofs.FilledFacts.{capacity-within}
 use Rattle.placing.specs.Working.{Working}
-use Rattle.placing.proofs.PlacingKept.{working-as}
+use Rattle.placing.proofs.PlacingKept.{working-on, working-as}
 use Rattle.replenishing.proofs.ReplenishingLaws.{replenish-working}
 use Rattle.claiming.specs.Claimable.{Own, Fronted}
 use Rattle.claiming.proofs.ClaimingLaws.{claim-front-working}
@@ -67,6 +68,33 @@ pub fronts-next :
 unfolding Fronts
 fronts-next zero limit t k ws i h f l m = absurd (omega arith)
 fronts-next (suc n) limit t k ws i h f l m = simp sub-one (f l m .1)
+
+-- The refill keeps a working table working, if its turns find fronts of that class and heap.
+pub refill-filled :
+    (n : ℕ) {limit : ℕ} {k : ClassHeap} {t : Tables} (w : Working limit k t) (ws : List ℕ) (i : ℕ) →
+    Fronts n limit t k ws i →
+    Filled (w .shape) (refill n limit t k ws i .table)
+unfolding refill Fronts
+refill-filled zero w ws i f = w .filled
+refill-filled (suc n) {limit} {k} {t} w ws i f =
+    let P : Refilled → Type 0 = λ r. Filled (w .shape) (r .table) in
+    let u = replenish limit t k in
+    let last = refill n limit (claimFront u k (getD ws i 0)) k ws (i + 1) in
+    cond-both P (ltb (countAt t k) (k .capacity)) (cond (noPartial u k) (refilled u i) last) (refilled t i)
+    (λ e.
+    cond-both P (noPartial u k) (refilled u i) last (λ d. replenish-working w .filled)
+    (λ d.
+    let some : 0 < headAt u k partialList = omega (arith, eqb-false (headAt u k partialList) 0 d) in
+    let r = f (ltb-true (countAt t k) (k .capacity) e) some in
+    let front : Fronted limit k u = record { some = some; own = record { working = replenish-working w; belongs = r .0 } } in
+    refill-filled n (claim-front-working front (getD ws i 0)) ws (i + 1) (r .1)))
+    (λ e. w .filled)
+
+abbrev pub refill-working :
+    (n : ℕ) {limit : ℕ} {k : ClassHeap} {t : Tables} (w : Working limit k t) (ws : List ℕ) (i : ℕ) →
+    Fronts n limit t k ws i →
+    Working limit k (refill n limit t k ws i .table)
+refill-working n w ws i f = working-on w (refill-filled n w ws i f)
 
 -- A magazine's capacity is small.
 pub capacity-few : {limit : ℕ} {k : ClassHeap} {t : Tables} → Working limit k t → k .capacity ≤ 64
@@ -148,26 +176,7 @@ module _ (limit : ℕ) (k : ClassHeap) (ws : List ℕ) (t₀ t : Tables) (i left
             same = rw c (sym (refill-turn left limit t k ws i room more then) ∙ r .same);
           }
 
--- ---- what a refill comes to
-
--- A refill keeps a working table working.
-pub refill-working :
-    (n : ℕ) {limit : ℕ} {k : ClassHeap} {t : Tables} (ws : List ℕ) (i : ℕ) → Working limit k t → Fronts n limit t k ws i →
-    Working limit k (refill n limit t k ws i .table)
-unfolding refill Fronts
-refill-working zero ws i w f = w
-refill-working (suc n) {limit} {k} {t} ws i w f =
-    cond-both (λ (r : Refilled). Working limit k (r .table)) (ltb (countAt t k) (k .capacity)) _ _
-    (λ e.
-    cond-both (λ (r : Refilled). Working limit k (r .table)) (noPartial (replenish limit t k) k) _ _ (λ d. replenish-working w)
-    (λ d.
-    let m : 0 < headAt (replenish limit t k) k partialList = omega (arith, eqb-false (headAt (replenish limit t k) k partialList) 0 d) in
-    let x = f (ltb-true (countAt t k) (k .capacity) e) m in
-    refill-working n ws (i + 1)
-    (claim-front-working (record { some = m; own = record { working = replenish-working w; belongs = x .0 } }) (getD ws i 0)) (x .1)))
-    (λ e. w)
-
--- It uses a word a turn, at most.
+-- A refill uses a word a turn, at most.
 pub refill-words : (n limit : ℕ) (t : Tables) (k : ClassHeap) (ws : List ℕ) (i : ℕ) → refill n limit t k ws i .words ≤ i + n
 unfolding refill
 refill-words zero limit t k ws i = omega arith
