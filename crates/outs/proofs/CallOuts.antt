@@ -15,7 +15,7 @@ use Rattle.magazine.specs.Magazine.{needsRefill, isFull, pushEntry, drawnAt}
 use Rattle.span.specs.Span.{remoteFree}
 use Rattle.class_heap.specs.Steps.{Refilled, refill, refilled, flush}
 use Rattle.calls.specs.Outcome.{Outcome, refused}
-use Rattle.calls.specs.Heap.{granted, draw, allocSmall, deallocLocal}
+use Rattle.calls.specs.Heap.{granted, draw, allocSmall, deallocLocal, refillFirst, flushFirst}
 use Rattle.calls.specs.Primary.{deallocSmall}
 use Rattle.sound.specs.Sound.{Belongs}
 use Rattle.filled_magazines.proofs.FilledFacts.{capacity-some, full-above-low}
@@ -41,7 +41,7 @@ module _ {n : ℕ} {k : ClassHeap} {t : Tables} (w : Working n k t) {s q : ℕ} 
 
   -- A free by the owner, of a block that is out.
   pub dealloc-local-goes : GoesBack (w .shape) t (deallocLocal t k s q) s q
-  unfolding deallocLocal
+  unfolding deallocLocal flushFirst
   dealloc-local-goes =
       let g = w .shape in
       cond-both (λ u. GoesBack g t (pushEntry u k (entryOf s q)) s q) (isFull t k) (flush (k .capacity) t k) t
@@ -89,7 +89,7 @@ pub alloc-small-outs :
     {limit : ℕ} {k : ClassHeap} {t : Tables} (w : Working limit k t) (ws : List ℕ) →
     (needsRefill t k ≡ true → Fronts (k .capacity) limit t k ws 0) →
     Dry (w .shape) t (allocSmall limit t k ws) ⊎ Allocated (w .shape) t k (allocSmall limit t k ws)
-unfolding allocSmall
+unfolding allocSmall refillFirst
 alloc-small-outs {limit} {k} {t} w ws fronts =
     let g = w .shape in
     cond-both (λ r. Dry g t (draw r k ws) ⊎ Allocated g t k (draw r k ws)) (needsRefill t k) (refill (k .capacity) limit t k ws 0)
