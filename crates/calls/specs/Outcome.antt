@@ -15,5 +15,8 @@ outcome number span offset words t =
     ended (record { number = number; span = span; offset = offset; words = words }) t
 
 -- "A refusal answers its number, span 0, offset 0, words used 0, and changes no cell."
+abbrev pub refusal : ℕ → Answer
+refusal number = record { number = number; span = 0; offset = 0; words = 0 }
+
 abbrev pub refused : ℕ → Tables → Outcome
-refused number t = outcome number 0 0 0 t
+refused number t = ended (refusal number) t
