@@ -41,7 +41,6 @@ use Rattle.claiming.proofs.ClaimedEntries.{MaskEntry, claimed-entry}
 
 -- ---- the slots of a claim are out, of the class and heap, and fit in
 
-
 module _ (g : Shape) (t : Tables) (o : Filled g t) (h c : ℕ) (s : ℕ) (own : Belongs t (classHeap g h c) s) (m w i mask : ℕ)
     (e : claim (loaded t s) m w .answer ≡ Taken i mask) where
   took : Took (homeOf g t s .slots) m (loaded t s) i mask (claimedOf t s m w)

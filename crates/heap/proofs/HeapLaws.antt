@@ -144,17 +144,19 @@ module _ {n : ℕ} {k : ClassHeap} {t u : Tables} (w : Working n k t) (e : u ≡
   pub flushed-room-here : countAt u k < k .capacity
   flushed-room-here = rw e (flushed-room w)
 
--- The entry of a block of it is a number of 64 bits.
-pub freed-small : {n : ℕ} {k : ClassHeap} {t : Tables} {s q : ℕ} → Freeable n k t s q → entryOf s q < 2 ^ 64
-unfolding entryOf mostSlots
-freed-small {n} {k} {t} {s} {q} x =
-    let w = x .working in
-    let few : s < w .shape .spans = omega (arith, x .belongs .used, w .filled .within) in
-    let small : q < 4096 = omega (arith, x .inside, slots) in
-    omega (arith, w .few, mul-le-mul-right {m = suc s} {n = w .shape .spans} 4096 few)
-  where
-    slots : k .slots ≤ 4096
-    slots = rw (x .working .named) (slots-within (x .working .shape) (x .working .heap) (x .working .class))
+-- A block's slot is one that a span can have, and its entry is a number of 64 bits.
+module _ {n : ℕ} {k : ClassHeap} {t : Tables} {s q : ℕ} (w : Working n k t) (used : s < t .used) (inside : q < k .slots) where
+  pub block-slot : q < mostSlots
+  block-slot = omega (arith, inside, slots)
+    where
+      slots : k .slots ≤ mostSlots
+      slots = rw (w .named) (slots-within (w .shape) (w .heap) (w .class))
+
+  pub block-small : entryOf s q < 2 ^ 64
+  unfolding entryOf mostSlots
+  block-small =
+      let few : s < w .shape .spans = omega (arith, used, w .filled .within) in
+      omega (arith, w .few, block-slot, mul-le-mul-right {m = suc s} {n = w .shape .spans} 4096 few)
 
 pub dealloc-made :
     (t t₁ t′ : Tables) (k : ClassHeap) (s q e : ℕ) → t₁ ≡ flushFirst t k → e ≡ entryOf s q → t′ ≡ pushEntry t₁ k e → t′ ≡ deallocLocal t k s q

@@ -1,2 +1,3 @@
 pub mod LentLaws
 pub mod AllocationTests
+pub mod FreeTests

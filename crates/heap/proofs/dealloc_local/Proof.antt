@@ -2,7 +2,7 @@
 use borrow.Author.Needs.{needs}
 use mathlib.Core.Path.{_≡_}
 use Rattle.claiming.proofs.ClaimingLaws.{working-room}
-use Rattle.heap.proofs.HeapLaws.{flushed-here, flushed-room-here, freed-small, dealloc-made}
+use Rattle.heap.proofs.HeapLaws.{flushed-here, flushed-room-here, block-small, dealloc-made}
 use Rattle.heap.proofs.dealloc_local.Statement.{statement}
 use Rattle.heap.proofs.dealloc_local.Tie as tie
 
@@ -10,7 +10,7 @@ flush-first-requires : tie.Need-flush-first-requires
 flush-first-requires c κs = let p = c .before .before .before .before .before .before .before .before .pre in (p .0, p .1, p .2 .working)
 
 entry-of-requires : tie.Need-entry-of-requires
-entry-of-requires c κs = freed-small (c .before .before .before .before .before .before .before .before .before .before .before .before .before .before .before .before .before .pre .2)
+entry-of-requires c κs = let x = c .before .before .before .before .before .before .before .before .before .before .before .before .before .before .before .before .before .pre .2 in block-small (x .working) (x .belongs .used) (x .inside)
 
 push-requires : tie.Need-push-requires
 push-requires c κs = let p = c .before .before .before .before .before .before .before .before .before .before .before .before .before .before .before .before .before .before .pre in let e = c .before .before .before .before .before .before .before .before .before .flush-first .ensures (p .1) in (flushed-here (p .2 .working) e, flushed-room-here (p .2 .working) e)
