@@ -1,13 +1,12 @@
 -- The set bits of a word as a list: each stands in it once, and there are as many as the word has. Assumes nothing.
 use mathlib.Core.Path.{_≡_, refl, sym, ap, _∙_}
-use mathlib.Core.Bool.{Bool, true}
-use mathlib.Core.List.{List, [], _∷_}
+use mathlib.Core.Bool.{true}
+use mathlib.Core.List.{List}
 use Prim.Native.Nat.{ℕ, zero, suc, _+_, _/_, _%_, _<_}
 use native.Mathlib.Omega.{arith}
 use borrow.Author.Tests.{eq-eqb, eqb-true}
 use lib.Count.{onesIn}
 use lib.ListN.{length, getD}
-use lib.Dec.{eqb}
 use Rattle.laws.specs.Word.{bitAt, isSet, bitDigit, bitsFrom}
 use Rattle.laws.proofs.BitLaws.{bit-lt, bit-first, bit-next}
 

@@ -1,5 +1,5 @@
 -- The entries of a claim are those of the slots in its mask. Assumes nothing.
-use mathlib.Core.Path.{_≡_, subst, _∙_}
+use mathlib.Core.Path.{_≡_, _∙_}
 use Prim.Native.Nat.{ℕ, _+_, _*_, _/_, _%_, _<_}
 use native.Mathlib.Nat.{mod-lt, div-add-mod'}
 use native.Mathlib.Omega.{arith}
@@ -7,8 +7,9 @@ use lib.ListN.{length, getD}
 use lib.Dec.{lit<}
 use Rattle.tables.specs.Cells.{entryOf}
 use Rattle.span.specs.Span.{claimedEntries}
+use Rattle.sound.specs.States.{EntriesOf}
 use Rattle.filled_spans.proofs.ClaimKept.{InMask}
-use Rattle.claiming.proofs.BitsListed.{bits-at, Stands, bits-stand}
+use Rattle.claiming.proofs.BitsListed.{bits-at, bits-stand}
 
 -- y is the entry of a slot of span s in the mask
 pub record MaskEntry (s i mask y : ℕ) : Type 0 where
@@ -40,11 +41,11 @@ module _ (s i mask : ℕ) where
       }
 
   -- Each slot in the mask has its entry among them.
-  pub claimed-stands : (q : ℕ) → InMask i mask q → Stands (claimedEntries s i mask) (entryOf s q)
+  pub claimed-has : (q : ℕ) → InMask i mask q → EntriesOf (claimedEntries s i mask) s q
   unfolding claimedEntries
-  claimed-stands q m =
-      subst (Stands (claimedEntries s i mask)) (entry-plus s (i * 64) (q % 64) ∙ at-slot)
-      (bits-stand 64 (entryOf s (i * 64)) mask (q % 64) (mod-lt q (lit< tt)) (m .bit))
+  claimed-has q m =
+      let r = bits-stand 64 (entryOf s (i * 64)) mask (q % 64) (mod-lt q (lit< tt)) (m .bit) in
+      record { place = r .place; below = r .below; is = r .is ∙ entry-plus s (i * 64) (q % 64) ∙ at-slot }
     where
       at-slot : entryOf s (i * 64 + q % 64) ≡ entryOf s q
       at-slot = rw (← m .word) (rw (div-add-mod' q 64))

@@ -1,12 +1,11 @@
 -- One claim, a call at a time; its slots may enter the magazine; and what it keeps. Assumes nothing.
-use mathlib.Core.Path.{_≡_, refl, sym, ap, _∙_}
-use mathlib.Core.Bool.{Bool, true, false, cond}
+use mathlib.Core.Path.{_≡_, refl, sym, _∙_}
+use mathlib.Core.Bool.{true, false}
 use mathlib.Core.List.{List, [], _∷_}
-use Prim.Native.Nat.{ℕ, suc, _+_, _-_, _*_, _/_, _%_, _^_, _<_, _≤_}
+use Prim.Native.Nat.{ℕ, suc, _+_, _-_, _*_, _^_, _<_, _≤_}
 use native.Mathlib.Nat.{mul-le-mul-right}
 use native.Mathlib.Omega.{arith}
-use lib.ListN.{length, getD}
-use Rattle.laws.specs.Word.{popcount}
+use lib.ListN.{length}
 use Rattle.laws.proofs.CondLaws.{cond-both}
 use Rattle.size_classes.specs.Slots.{mostSlots}
 use Rattle.occupancy.specs.declared.Claimed.{Claimed}
@@ -15,7 +14,7 @@ use Rattle.occupancy.specs.Occupied.{claim}
 use Rattle.occupancy.specs.Right.{Right, Took}
 use Rattle.occupancy.proofs.ClaimLaws.{claim-took}
 use Rattle.tables.specs.declared.ClassHeap.{ClassHeap}
-use Rattle.tables.specs.Shape.{Shape, classes, classHeap}
+use Rattle.tables.specs.Shape.{Shape, classHeap}
 use Rattle.tables.specs.Cells.{Tables, headAt, partialList, fullList, countAt, entryOf}
 use Rattle.magazine.specs.Room.{Room}
 use Rattle.magazine.specs.Magazine.{pushEntry, pushEntries}
@@ -26,14 +25,15 @@ use Rattle.class_heap.specs.Steps.{ifFull, taken, claimOf, claimFrom, claimFron
 use Rattle.sound.specs.Sound.{homeOf, Belongs}
 use Rattle.sound.specs.Filled.{Filled}
 use Rattle.filled_magazines.proofs.FilledFacts.{filled-room, belongs-home}
-use Rattle.filled_magazines.proofs.MagazineSteps.{Loose, block-loose}
-use Rattle.filled_magazines.proofs.PushesSteps.{Pushable, push-entries-filled}
+use Rattle.filled_magazines.specs.Pushable.{OutEntry, Pushable}
+use Rattle.filled_magazines.proofs.MagazineSteps.{block-out-entry}
+use Rattle.filled_magazines.proofs.PushesSteps.{push-entries-filled}
 use Rattle.filled_spans.proofs.SpanValues.{home-most, filled-right}
 use Rattle.filled_spans.proofs.FilledKept.{only-belongs}
 use Rattle.filled_spans.proofs.ClaimKept.{claimedOf, claim-only, claim-kept, claim-inside, claim-states}
 use Rattle.filled_spans.proofs.ReclaimKept.{folded-only, folded-kept}
 use Rattle.placing.specs.Working.{Working}
-use Rattle.placing.proofs.PlacingKept.{working-on, push-working, remove-working}
+use Rattle.placing.proofs.PlacingKept.{working-on, working-room, push-working, remove-working}
 use Rattle.reclaiming.proofs.ReclaimingLaws.{working-cells, working-foldable}
 use Rattle.claiming.specs.Claimable.{Claimable, Own, Fronted}
 use Rattle.claiming.proofs.BitsListed.{bits-apart, bits-length}
@@ -53,13 +53,14 @@ module _ (g : Shape) (t : Tables) (o : Filled g t) (h c : ℕ) (s : ℕ) (own : 
   unfolding claimedEntries
   claim-few = rw (bits-length 64 (entryOf s (i * 64)) mask, took .number) (omega arith)
 
-  entry-loose : (y : ℕ) → MaskEntry s i mask y → Loose g (stored t s (claimedOf t s m w)) (classHeap g h c) y
-  entry-loose y n =
+  entry-out : (y : ℕ) → MaskEntry s i mask y → OutEntry g (stored t s (claimedOf t s m w)) (classHeap g h c) y
+  entry-out y n =
       let inside = claim-inside g t o s (own .used) m w i mask e (n .slot) (n .inMask) in
       rw (n .is)
-      (block-loose g (stored t s (claimedOf t s m w)) h c s (only-belongs (claim-only g t o s (own .used) m w) (classHeap g h c) s own)
+      (block-out-entry g (stored t s (claimedOf t s m w)) h c s (only-belongs (claim-only g t o s (own .used) m w) (classHeap g h c) s own)
       (rw (sym (belongs-home g t h c s own)) inside)
-      (claim-states g t o s (own .used) m w i mask e .named (n .slot) (omega (arith, inside, home-most g t s)) (n .inMask)))
+      (claim-states g t o s (own .used) m w i mask e .named s (n .slot) (own .used) (omega (arith, inside, home-most g t s))
+      (record { span = refl; slot = n .inMask })))
 
   pub claimed-pushable :
       countAt t (classHeap g h c) + m ≤ classHeap g h c .capacity →
@@ -67,7 +68,7 @@ module _ (g : Shape) (t : Tables) (o : Filled g t) (h c : ℕ) (s : ℕ) (own : 
   unfolding claimedEntries stored
   claimed-pushable l =
       record {
-        loose = λ j d. entry-loose _ (claimed-entry s i mask j d);
+        each = λ j d. entry-out _ (claimed-entry s i mask j d);
         distinct = λ j d a f. bits-apart 64 (entryOf s (i * 64)) mask j d a f;
         fits = omega (arith, l, claim-few);
       }
@@ -79,9 +80,6 @@ named-room {k} {l} t e h = rw (← e) (omega (arith, h))
 
 pub pushable-named : {g : Shape} {t : Tables} {k l : ClassHeap} {es : List ℕ} → k ≡ l → Pushable g t l es → Pushable g t k es
 pushable-named e p = rw e p
-
-pub working-room : {n : ℕ} {k : ClassHeap} {t : Tables} → Working n k t → Room (t .entries) (t .heads) k
-working-room w = rw (w .named) (filled-room (w .filled) (w .inHeaps) (w .inClasses))
 
 module _ {n : ℕ} {k : ClassHeap} {t : Tables} {s : ℕ} (x : Own n k t s) where
   pub own-count : countAt t k ≤ k .capacity

@@ -7,7 +7,7 @@ use Rattle.tables.specs.declared.ClassHeap.{ClassHeap}
 use Rattle.tables.specs.Cells.{Tables, headAt, partialList}
 use Rattle.span.specs.Span.{claimedEntries}
 use Rattle.sound.specs.Sound.{Belongs}
-use Rattle.filled_magazines.proofs.PushesSteps.{Pushable}
+use Rattle.filled_magazines.specs.Pushable.{Pushable}
 use Rattle.placing.specs.Working.{Working}
 
 pub record Claimable (limit : ℕ) (k : ClassHeap) (t : Tables) (s : ℕ) (answer : Claimed) : Type 0 where

@@ -2,7 +2,6 @@ pub mod FilledFacts
 pub mod StateLaws
 pub mod SameSpans
 pub mod ListSteps
-pub mod Becomes
 pub mod OneMagazine
 pub mod MagazineSteps
 pub mod PushesSteps

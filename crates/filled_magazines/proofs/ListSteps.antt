@@ -15,8 +15,8 @@ use Rattle.linked_list.proofs.LinksKept.{push-links, remove-links, pop-links, p
 use Rattle.span.specs.State.{stateOf}
 use Rattle.sound.specs.Sound.{homeOf}
 use Rattle.sound.specs.Filled.{Filled}
+use Rattle.sound.specs.States.{Keeps}
 use Rattle.filled_magazines.proofs.FilledFacts.{filled-links}
-use Rattle.filled_magazines.proofs.Becomes.{Keeps}
 use Rattle.filled_magazines.proofs.SameSpans.{SameSpans, same-magazine, same-state, same-filled}
 
 -- ---- any step that changes links and fronts alone

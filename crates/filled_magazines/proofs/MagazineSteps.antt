@@ -16,34 +16,31 @@ use Rattle.span.specs.declared.BlockState.the-variants.{Cached, Out}
 use Rattle.span.specs.State.{stateOf}
 use Rattle.sound.specs.Sound.{Belongs, EntrySound}
 use Rattle.sound.specs.Filled.{Filled}
+use Rattle.sound.specs.States.{Becomes, Block}
+use Rattle.sound.proofs.StateTests.{cached-no-out, out-says}
+use Rattle.sound.proofs.StatesLaws.{becomes-this}
+use Rattle.filled_magazines.specs.Pushable.{OutEntry}
 use Rattle.filled_magazines.proofs.FilledFacts.{slots-within, filled-room, filled-distinct, filled-entry}
-use Rattle.filled_magazines.proofs.StateLaws.{cached-no-out, out-says, among-is-cached, entry-is-cached}
+use Rattle.filled_magazines.proofs.StateLaws.{among-is-cached, entry-is-cached}
 use Rattle.filled_magazines.proofs.SameSpans.{same-belongs, same-entry}
-use Rattle.filled_magazines.proofs.Becomes.{Becomes}
 use Rattle.filled_magazines.proofs.OneMagazine.{only-spans, only-filled, enters, leaves}
 
 -- ---- an entry that may be pushed
 
--- it names a block that is out, of a used span of that class and heap
-pub record Loose (g : Shape) (t : Tables) (k : ClassHeap) (e : ℕ) : Type 0 where
-  pub belongs : Belongs t k (entrySpan e)
-  pub inRange : entrySlot e < k .slots
-  pub out : stateOf g t (entrySpan e) (entrySlot e) ≡ Out
-
 -- It is sound.
-pub loose-sound : {g : Shape} {t : Tables} {k : ClassHeap} {e : ℕ} → Loose g t k e → EntrySound t k e
-loose-sound {g} {t} {k} {e} m =
+pub out-entry-sound : {g : Shape} {t : Tables} {k : ClassHeap} {e : ℕ} → OutEntry g t k e → EntrySound t k e
+out-entry-sound {g} {t} {k} {e} m =
     let r = out-says g t (entrySpan e) (entrySlot e) (m .out) in
     record { belongs = m .belongs; inRange = m .inRange; occupied = r .occupied; notPending = r .notPending }
 
 -- It is the entry of such a block.
-pub block-loose :
+pub block-out-entry :
     (g : Shape) (t : Tables) (h c s : ℕ) {q : ℕ} →
     Belongs t (classHeap g h c) s →
     q < classHeap g h c .slots →
     stateOf g t s q ≡ Out →
-    Loose g t (classHeap g h c) (entryOf s q)
-block-loose g t h c s {q} b l out =
+    OutEntry g t (classHeap g h c) (entryOf s q)
+block-out-entry g t h c s {q} b l out =
     let w : q < mostSlots = omega (arith, slots-within g h c) in
     record {
       belongs = rw (entry-span s w) b;
@@ -53,14 +50,14 @@ block-loose g t h c s {q} b l out =
 
 module _ {g : Shape} {t : Tables} (o : Filled g t) {h c : ℕ} (hh : h < g .heaps) (hc : c < classes g) where
   -- It stands in no magazine yet.
-  pub loose-in-none : {e : ℕ} → Loose g t (classHeap g h c) e → Among t (classHeap g h c) e → ⊥
-  loose-in-none m a = cached-no-out (sym (among-is-cached o hh hc a) ∙ m .out)
+  pub out-entry-in-none : {e : ℕ} → OutEntry g t (classHeap g h c) e → Among t (classHeap g h c) e → ⊥
+  out-entry-in-none m a = cached-no-out (sym (among-is-cached o hh hc a) ∙ m .out)
 
   -- ---- push
 
-  module _ {e : ℕ} (m : Loose g t (classHeap g h c) e) (free : countAt t (classHeap g h c) < classHeap g h c .capacity) where
-    pub push-loose-filled : Filled g (pushEntry t (classHeap g h c) e)
-    push-loose-filled =
+  module _ {e : ℕ} (m : OutEntry g t (classHeap g h c) e) (free : countAt t (classHeap g h c) < classHeap g h c .capacity) where
+    pub push-out-filled : Filled g (pushEntry t (classHeap g h c) e)
+    push-out-filled =
         let k = classHeap g h c in
         let room = filled-room o hh hc in
         let only = push-only t k e free in
@@ -70,26 +67,26 @@ module _ {g : Shape} {t : Tables} (o : Filled g t) {h c : ℕ} (hh : h < g .heap
           count = push-room t k room e free .held;
           entries =
               push-each t k room e free (EntrySound (pushEntry t k e) k) (λ i l. still (entryAt t k i) (filled-entry o hh hc i l))
-              (still e (loose-sound m));
-          distinct = push-distinct t k room e free (filled-distinct o hh hc) (loose-in-none m) .apart;
+              (still e (out-entry-sound m));
+          distinct = push-distinct t k room e free (filled-distinct o hh hc) (out-entry-in-none m) .apart;
         })
 
-    pub push-loose-becomes : Becomes g t (pushEntry t (classHeap g h c) e) (entrySpan e) (entrySlot e) Cached
-    push-loose-becomes =
+    pub push-out-becomes : Becomes g t (pushEntry t (classHeap g h c) e) (Block (entrySpan e) (entrySlot e)) Cached
+    push-out-becomes =
         let k = classHeap g h c in
         let room = filled-room o hh hc in
-        enters o hh hc (push-only t k e free) push-loose-filled (push-new t k room e free) (push-kept t k room e free) (push-from t k room e free)
+        enters o hh hc (push-only t k e free) push-out-filled (push-new t k room e free) (push-kept t k room e free) (push-from t k room e free)
 
   -- The same, of the block itself.
   module _ {s q : ℕ} (b : Belongs t (classHeap g h c) s) (l : q < classHeap g h c .slots) (out : stateOf g t s q ≡ Out)
       (free : countAt t (classHeap g h c) < classHeap g h c .capacity) where
     pub push-entry-filled : Filled g (pushEntry t (classHeap g h c) (entryOf s q))
-    push-entry-filled = push-loose-filled (block-loose g t h c s b l out) free
+    push-entry-filled = push-out-filled (block-out-entry g t h c s b l out) free
 
-    pub push-entry-becomes : Becomes g t (pushEntry t (classHeap g h c) (entryOf s q)) s q Cached
+    pub push-entry-becomes : Becomes g t (pushEntry t (classHeap g h c) (entryOf s q)) (Block s q) Cached
     push-entry-becomes =
         let w : q < mostSlots = omega (arith, slots-within g h c) in
-        let r = push-loose-becomes (block-loose g t h c s b l out) free in
+        let r = push-out-becomes (block-out-entry g t h c s b l out) free in
         rw (entry-span s w, entry-slot s w) at r
 
   -- ---- pop
@@ -117,8 +114,8 @@ module _ {g : Shape} {t : Tables} (o : Filled g t) {h c : ℕ} (hh : h < g .heap
         })
 
     pub pop-entry-becomes :
-        Becomes g t (popEntry t (classHeap g h c)) (entrySpan (topEntry t (classHeap g h c)))
-        (entrySlot (topEntry t (classHeap g h c))) Out
+        Becomes g t (popEntry t (classHeap g h c))
+        (Block (entrySpan (topEntry t (classHeap g h c))) (entrySlot (topEntry t (classHeap g h c)))) Out
     pop-entry-becomes =
         let k = classHeap g h c in
         let room = filled-room o hh hc in
@@ -126,13 +123,13 @@ module _ {g : Shape} {t : Tables} (o : Filled g t) {h c : ℕ} (hh : h < g .heap
         (pop-gone t k room some (filled-distinct o hh hc)) (pop-kept t k room some) (pop-from t k room some)
 
     -- The popped entry may be pushed again.
-    pub popped-loose : Loose g (popEntry t (classHeap g h c)) (classHeap g h c) (topEntry t (classHeap g h c))
-    popped-loose =
+    pub popped-out : OutEntry g (popEntry t (classHeap g h c)) (classHeap g h c) (topEntry t (classHeap g h c))
+    popped-out =
         let k = classHeap g h c in
         record {
           belongs = same-belongs (only-spans o hh hc (pop-only t k)) k (entrySpan (topEntry t k)) (top-sound .belongs);
           inRange = top-sound .inRange;
-          out = pop-entry-becomes .this;
+          out = becomes-this pop-entry-becomes (top-sound .belongs .used) (omega (arith, top-sound .inRange, slots-within g h c));
         }
 
     -- ---- draw
@@ -168,8 +165,8 @@ module _ {g : Shape} {t : Tables} (o : Filled g t) {h c : ℕ} (hh : h < g .heap
 
       pub draw-entry-becomes :
           Becomes g t (drawEntry t (classHeap g h c) word)
-          (entrySpan (entryAt t (classHeap g h c) (drawnAt t (classHeap g h c) word)))
-          (entrySlot (entryAt t (classHeap g h c) (drawnAt t (classHeap g h c) word))) Out
+          (Block (entrySpan (entryAt t (classHeap g h c) (drawnAt t (classHeap g h c) word)))
+          (entrySlot (entryAt t (classHeap g h c) (drawnAt t (classHeap g h c) word)))) Out
       draw-entry-becomes =
           let k = classHeap g h c in
           let room = filled-room o hh hc in
@@ -178,14 +175,14 @@ module _ {g : Shape} {t : Tables} (o : Filled g t) {h c : ℕ} (hh : h < g .heap
           (draw-gone t k room some word (filled-distinct o hh hc)) (draw-kept t k room some word) (draw-from t k room some word)
 
       -- The drawn entry may be pushed again.
-      pub drawn-loose :
-          Loose g (drawEntry t (classHeap g h c) word) (classHeap g h c)
+      pub drawn-out :
+          OutEntry g (drawEntry t (classHeap g h c) word) (classHeap g h c)
           (entryAt t (classHeap g h c) (drawnAt t (classHeap g h c) word))
-      drawn-loose =
+      drawn-out =
           let k = classHeap g h c in
           let only = draw-only t k word (filled-room o hh hc) some in
           record {
             belongs = same-belongs (only-spans o hh hc only) k (entrySpan (entryAt t k (drawnAt t k word))) (drawn-sound .belongs);
             inRange = drawn-sound .inRange;
-            out = draw-entry-becomes .this;
+            out = becomes-this draw-entry-becomes (drawn-sound .belongs .used) (omega (arith, drawn-sound .inRange, slots-within g h c));
           }

@@ -21,10 +21,11 @@ use Rattle.span.specs.declared.BlockState.the-variants.{Cached, Out}
 use Rattle.span.specs.State.{stateOf}
 use Rattle.sound.specs.Sound.{homeOf, EntrySound, MagazineSound}
 use Rattle.sound.specs.Filled.{Filled}
+use Rattle.sound.specs.States.{Becomes, Block}
+use Rattle.sound.proofs.StateTests.{out-so}
 use Rattle.filled_magazines.proofs.FilledFacts.{entry-named, belongs-home, filled-links, count-within}
-use Rattle.filled_magazines.proofs.StateLaws.{out-so, among-sound, among-is-cached}
+use Rattle.filled_magazines.proofs.StateLaws.{among-sound, among-is-cached}
 use Rattle.filled_magazines.proofs.SameSpans.{SameSpans, same-entry, same-magazine, same-state, same-filled}
-use Rattle.filled_magazines.proofs.Becomes.{Becomes}
 
 -- The block of an entry.
 pub names-block : (x : ℕ) {y e : ℕ} → y < mostSlots → entryOf x y ≡ e → (x ≡ entrySpan e) × (y ≡ entrySlot e)
@@ -50,7 +51,7 @@ sound-out g t h c e m n =
     (record {
       occupied = m .occupied;
       notPending = m .notPending;
-      notCached = rw (belongs-home g t h c (entrySpan e) (m .belongs), entry-named e) n;
+      notKept = rw (belongs-home g t h c (entrySpan e) (m .belongs), entry-named e) (not-uncached t (classHeap g h c) e n);
     })
 
 -- This class of this heap, or one whose magazine stands apart.
@@ -135,14 +136,14 @@ module _ {g : Shape} {t u : Tables} (o : Filled g t) {h c : ℕ} (hh : h < g .he
       Among u (classHeap g h c) e →
       ((x : ℕ) → Among t (classHeap g h c) x → Among u (classHeap g h c) x) →
       ((x : ℕ) → Among u (classHeap g h c) x → Among t (classHeap g h c) x ⊎ (x ≡ e)) →
-      Becomes g t u (entrySpan e) (entrySlot e) Cached
+      Becomes g t u (Block (entrySpan e) (entrySlot e)) Cached
   enters {e} f new kept from =
       record {
-        this = among-is-cached f hh hc new;
+        named = λ x y hx hy d. ap₂ (stateOf g u) (d .span) (d .slot) ∙ among-is-cached f hh hc new;
         others =
             λ x y hx hy d.
             only-state x y hx (kept (entryOf x y))
-            (λ a. ⊎-elim (λ s. s) (λ q. let r = names-block x hy q in absurd (d (r .0) (r .1))) (from (entryOf x y) a));
+            (λ a. ⊎-elim (λ s. s) (λ q. let r = names-block x hy q in absurd (d (record { span = r .0; slot = r .1 }))) (from (entryOf x y) a));
       }
 
   -- An entry leaves the magazine: its block becomes out.
@@ -152,11 +153,14 @@ module _ {g : Shape} {t u : Tables} (o : Filled g t) {h c : ℕ} (hh : h < g .he
       (Among u (classHeap g h c) e → ⊥) →
       ((x : ℕ) → Among t (classHeap g h c) x → (x ≡ e → ⊥) → Among u (classHeap g h c) x) →
       ((x : ℕ) → Among u (classHeap g h c) x → Among t (classHeap g h c) x) →
-      Becomes g t u (entrySpan e) (entrySlot e) Out
+      Becomes g t u (Block (entrySpan e) (entrySlot e)) Out
   leaves {e} old gone kept from =
       record {
-        this = sound-out g u h c e (same-entry only-spans (classHeap g h c) e (among-sound o hh hc old)) gone;
+        named =
+            λ x y hx hy d.
+            ap₂ (stateOf g u) (d .span) (d .slot)
+            ∙ sound-out g u h c e (same-entry only-spans (classHeap g h c) e (among-sound o hh hc old)) gone;
         others =
             λ x y hx hy d.
-            only-state x y hx (λ a. kept (entryOf x y) a (λ q. let r = names-block x hy q in d (r .0) (r .1))) (from (entryOf x y));
+            only-state x y hx (λ a. kept (entryOf x y) a (λ q. let r = names-block x hy q in d (record { span = r .0; slot = r .1 }))) (from (entryOf x y));
       }

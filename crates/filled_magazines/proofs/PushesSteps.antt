@@ -1,31 +1,26 @@
 -- A run of pushes of distinct entries of blocks that are out keeps a table filled: these blocks become cached, and every other keeps its state.
 -- Assumes nothing.
-use mathlib.Core.Path.{_≡_}
+use mathlib.Core.Path.{_≡_, subst}
 use mathlib.Core.Logic.{⊎-elim}
 use mathlib.Core.List.{List}
-use Prim.Native.Nat.{ℕ, _+_, _<_, _≤_}
+use Prim.Native.Nat.{ℕ, _+_, _<_}
 use lib.ListN.{length, getD}
-use Rattle.tables.specs.declared.ClassHeap.{ClassHeap}
 use Rattle.tables.specs.Shape.{Shape, classes, classHeap}
 use Rattle.tables.specs.Cells.{Tables, countAt, entryAt, entryOf}
 use Rattle.magazine.specs.Magazine.{pushEntries}
+use Rattle.magazine.specs.Held.{Among}
 use Rattle.magazine.proofs.OtherMagazines.{pushes-only}
 use Rattle.magazine.proofs.PushesLaws.{pushes-count, pushes-each, pushes-kept, pushes-among, pushes-from, pushes-distinct}
 use Rattle.span.specs.declared.BlockState.the-variants.{Cached}
 use Rattle.sound.specs.Sound.{EntrySound}
 use Rattle.sound.specs.Filled.{Filled}
+use Rattle.sound.specs.States.{Becomes, EntriesOf}
+use Rattle.filled_magazines.specs.Pushable.{Pushable}
 use Rattle.filled_magazines.proofs.FilledFacts.{filled-room, filled-distinct, filled-entry}
-use Rattle.filled_magazines.proofs.StateLaws.{among-is-cached}
+use Rattle.filled_magazines.proofs.StateLaws.{block-is-cached}
 use Rattle.filled_magazines.proofs.SameSpans.{same-entry}
-use Rattle.filled_magazines.proofs.Becomes.{AllBecome}
 use Rattle.filled_magazines.proofs.OneMagazine.{only-spans, only-filled, only-state}
-use Rattle.filled_magazines.proofs.MagazineSteps.{Loose, loose-sound, loose-in-none}
-
--- entries that may be pushed one after the other: each may, no two are equal, and there is room for all
-pub record Pushable (g : Shape) (t : Tables) (k : ClassHeap) (es : List ℕ) : Type 0 where
-  pub loose : (j : ℕ) → j < length es → Loose g t k (getD es j 0)
-  pub distinct : (j : ℕ) → j < length es → (i : ℕ) → i < j → getD es i 0 ≡ getD es j 0 → ⊥
-  pub fits : countAt t k + length es ≤ k .capacity
+use Rattle.filled_magazines.proofs.MagazineSteps.{out-entry-sound, out-entry-in-none}
 
 module _ {g : Shape} {t : Tables} (o : Filled g t) {h c : ℕ} (hh : h < g .heaps) (hc : c < classes g) {es : List ℕ}
     (p : Pushable g t (classHeap g h c) es) where
@@ -45,22 +40,25 @@ module _ {g : Shape} {t : Tables} (o : Filled g t) {h c : ℕ} (hh : h < g .heap
         entries =
             pushes-each es t k room (p .fits) (EntrySound (pushEntries es t k) k)
             (λ i l. still (entryAt t k i) (filled-entry o hh hc i l))
-            (λ j l. still (getD es j 0) (loose-sound (p .loose j l)));
+            (λ j l. still (getD es j 0) (out-entry-sound (p .each j l)));
         distinct =
             pushes-distinct es t k room (p .fits) (filled-distinct o hh hc) (p .distinct)
-            (λ j l. loose-in-none o hh hc (p .loose j l)) .apart;
+            (λ j l. out-entry-in-none o hh hc (p .each j l)) .apart;
       })
 
   -- Their blocks become cached, and every other block of every used span keeps its state.
-  pub push-entries-become : AllBecome g t (pushEntries es t (classHeap g h c)) es Cached
+  pub push-entries-become : Becomes g t (pushEntries es t (classHeap g h c)) (EntriesOf es) Cached
   push-entries-become =
       let k = classHeap g h c in
       let room = filled-room o hh hc in
       let only = pushes-only es t k room (p .fits) in
       record {
-        these = λ j l. among-is-cached push-entries-filled hh hc (pushes-among es t k room (p .fits) j l);
+        named =
+            λ x y hx hy n.
+            block-is-cached push-entries-filled hh hc x hy
+            (subst (Among (pushEntries es t k) k) (n .is) (pushes-among es t k room (p .fits) (n .place) (n .below)));
         others =
             λ x y hx hy n.
             only-state o hh hc only x y hx (pushes-kept es t k room (p .fits) (entryOf x y))
-            (λ a. ⊎-elim (λ s. s) (λ w. absurd (n (w .0) (w .1) (w .2))) (pushes-from es t k room (p .fits) (entryOf x y) a));
+            (λ a. ⊎-elim (λ s. s) (λ w. absurd (n (record { place = w .0; below = w .1; is = w .2 }))) (pushes-from es t k room (p .fits) (entryOf x y) a));
       }

@@ -22,8 +22,9 @@ use Rattle.span.specs.declared.BlockState.the-variants.{Free, Out}
 use Rattle.span.specs.State.{isOccupied, isPending, stateOf}
 use Rattle.sound.specs.Sound.{homeOf}
 use Rattle.sound.specs.Filled.{Filled}
+use Rattle.sound.specs.States.{Becomes, SlotsOf}
+use Rattle.sound.proofs.StateTests.{isKept, out-so, free-so}
 use Rattle.filled_spans.proofs.SpanValues.{taken-occupied, filled-cells, filled-right}
-use Rattle.filled_spans.proofs.BlockStates.{isKept, Becomes, means-out, means-free}
 use Rattle.filled_spans.proofs.FilledKept.{OnlyOccupancy, other-state}
 use Rattle.filled_spans.proofs.OwnSpan.{kept-means, own-kept}
 use Rattle.filled_spans.proofs.StoredKept.{stored-occupied, stored-pending, stored-only, stored-count, stored-kept, stored-same, stored-becomes}
@@ -124,28 +125,28 @@ module _ (g : Shape) (t : Tables) (f : Filled g t) (s : ℕ) (h : s < t .used) (
         ∙ mask-free (homeOf g t s .slots) (loaded t s) (filled-right g t f s h) m w i mask e q n
 
     pub claim-were-free : (q : ℕ) → q < mostSlots → InMask i mask q → stateOf g t s q ≡ Free
-    claim-were-free q l n = means-free g t s q (clear q l n)
+    claim-were-free q l n = free-so g t s q (clear q l n)
 
     -- and are out, and every other block is as before.
-    pub claim-states : Becomes g t (stored t s (claimedOf t s m w)) s (InMask i mask) Out
+    pub claim-states : Becomes g t (stored t s (claimedOf t s m w)) (SlotsOf s (InMask i mask)) Out
     claim-states =
         let slots = homeOf g t s .slots in
         let o = filled-right g t f s h in
         let cells = filled-cells g t f s h in
         let u = stored t s (claimedOf t s m w) in
-        stored-becomes g t f s h (claimedOf t s m w) right (InMask i mask)
+        stored-becomes g t f s h (claimedOf t s m w) right (SlotsOf s (InMask i mask)) (λ r q n. n .span)
         (λ q l n.
-        means-out g u s q
+        out-so g u s q
         (record {
-          occupied = stored-occupied t s cells (claimedOf t s m w) (right .long) q l ∙ mask-taken slots (loaded t s) o m w i mask e q n;
+          occupied = stored-occupied t s cells (claimedOf t s m w) (right .long) q l ∙ mask-taken slots (loaded t s) o m w i mask e q (n .slot);
           notPending =
               stored-pending t s cells (claimedOf t s m w) (right .long) q l
-              ∙ not-so (isPending t s q) (λ p. true≢false (sym (f .spans s h .pending q l p .1) ∙ clear q l n));
+              ∙ not-so (isPending t s q) (λ p. true≢false (sym (f .spans s h .pending q l p .1) ∙ clear q l (n .slot)));
           notKept =
               own-kept g t u s claim-only q
-              ∙ not-so (isKept g t s q) (λ p. true≢false (sym (kept-means g t f s h q l p .0) ∙ clear q l n));
+              ∙ not-so (isKept g t s q) (λ p. true≢false (sym (kept-means g t f s h q l p .0) ∙ clear q l (n .slot)));
         }))
-        (λ q l n. mask-others slots (loaded t s) o m w i mask e q n)
+        (λ q l n. mask-others slots (loaded t s) o m w i mask e q (λ k. n (record { span = refl; slot = k })))
       where
         not-so : (b : Bool) → (b ≡ true → ⊥) → b ≡ false
         not-so b n = ⊎-elim (λ p. absurd (n p)) (λ p. p) (tested b)

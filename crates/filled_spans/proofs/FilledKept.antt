@@ -22,8 +22,8 @@ use Rattle.magazine.specs.Magazine.{isCached}
 use Rattle.span.specs.State.{isOccupied, isPending, stateOf}
 use Rattle.sound.specs.Sound.{homeOf, setBits, SpanFilled, Belongs, EntrySound, MagazineSound}
 use Rattle.sound.specs.Filled.{Filled}
+use Rattle.sound.proofs.StateTests.{same-tests}
 use Rattle.filled_spans.proofs.SpanValues.{slot-place, class-most, home-most}
-use Rattle.filled_spans.proofs.BlockStates.{same-tests}
 
 -- from t to u no cell changed but those of span s
 pub record OnlySpan (t u : Tables) (s : ℕ) : Type 0 where

@@ -1,5 +1,4 @@
 pub mod SpanValues
-pub mod BlockStates
 pub mod FilledKept
 pub mod OwnSpan
 pub mod SpanStores

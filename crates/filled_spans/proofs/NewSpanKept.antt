@@ -23,8 +23,8 @@ use Rattle.span.specs.Room.{WordCells, SpanCells}
 use Rattle.span.proofs.CellsThere.{local-there, field-there, part-long}
 use Rattle.sound.specs.Sound.{homeOf}
 use Rattle.sound.specs.Filled.{Filled}
+use Rattle.sound.proofs.StateTests.{free-so}
 use Rattle.filled_spans.proofs.SpanValues.{class-most, class-within, loaded-word, taken-occupied, next-cells, span-filled}
-use Rattle.filled_spans.proofs.BlockStates.{means-free}
 use Rattle.filled_spans.proofs.FilledKept.{OnlySpan, other-state, filled-after}
 use Rattle.filled_spans.proofs.SpanStores.{paste-other, words-in, words-other, words-length}
 use Rattle.filled_spans.proofs.ClearedCells.{remote-last, none-right}
@@ -236,7 +236,7 @@ module _ (g : Shape) (t : Tables) (f : Filled g t) (unused : t .used < g .spans)
       record {
         free =
             λ q l.
-            means-free g (newSpan t (classHeap g h c)) (t .used) q
+            free-so g (newSpan t (classHeap g h c)) (t .used) q
             (sym (taken-occupied (newSpan t (classHeap g h c)) (t .used) q (lt-of-lt-of-le l (class-most g h c)))
             ∙ ap (λ o. isTaken o q) (new-fresh t (classHeap g h c) w cells)
             ∙ fresh-free (classHeap g h c .slots) q w l);

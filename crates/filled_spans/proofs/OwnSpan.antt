@@ -17,8 +17,8 @@ use Rattle.span.specs.Span.{loaded}
 use Rattle.span.specs.State.{isOccupied, isPending, stateOf}
 use Rattle.sound.specs.Sound.{homeOf, Belongs, EntrySound}
 use Rattle.sound.specs.Filled.{Filled}
+use Rattle.sound.proofs.StateTests.{isKept, same-tests}
 use Rattle.filled_spans.proofs.SpanValues.{class-most, RemoteRight, span-filled}
-use Rattle.filled_spans.proofs.BlockStates.{isKept, same-tests}
 use Rattle.filled_spans.proofs.FilledKept.{OnlyOccupancy, entry-whole, same-cached, filled-after}
 
 module _ (g : Shape) (t : Tables) (f : Filled g t) (s : ℕ) where

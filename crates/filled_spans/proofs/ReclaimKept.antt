@@ -33,8 +33,9 @@ use Rattle.span.specs.State.{isOccupied, isPending, stateOf}
 use Rattle.span.specs.Room.{WordCells, SpanCells}
 use Rattle.sound.specs.Sound.{homeOf}
 use Rattle.sound.specs.Filled.{Filled}
+use Rattle.sound.specs.States.{Becomes, SlotsOf}
+use Rattle.sound.proofs.StateTests.{pending-says, pending-so, free-so}
 use Rattle.filled_spans.proofs.SpanValues.{slot-place, slot-below, pending-word, taken-occupied, listed-pending, filled-cells, filled-right, filled-pending}
-use Rattle.filled_spans.proofs.BlockStates.{Becomes, pending-means, means-pending, means-free}
 use Rattle.filled_spans.proofs.FilledKept.{OnlyOccupancy, only-none, only-then, other-state}
 use Rattle.filled_spans.proofs.OwnSpan.{kept-means, own-state, filled-own}
 use Rattle.filled_spans.proofs.StoredKept.{stored-only, stored-loaded}
@@ -111,20 +112,21 @@ module _ (g : Shape) (t : Tables) (f : Filled g t) (s : ℕ) (h : s < t .used) w
       (reclaim-bit q l ∙ ap₂ (λ (a b : Bool). a && not b) (k .0) (k .1), reclaim-none q l))
 
   -- Every pending block of the span is free, and every other block is as before.
-  pub reclaim-states : Becomes g t (reclaimPending t s) s (WasPending g t s) Free
+  pub reclaim-states : Becomes g t (reclaimPending t s) (SlotsOf s (WasPending g t s)) Free
   reclaim-states =
       record {
         named =
-            λ q l e.
-            let k = pending-means g t s q e in
-            means-free g (reclaimPending t s) s q
+            λ r q u l e.
+            let k = pending-says g t s q (e .slot) in
+            ap (λ (x : ℕ). stateOf g (reclaimPending t s) x q) (e .span)
+            ∙ free-so g (reclaimPending t s) s q
             (reclaim-bit q l ∙ ap₂ (λ (a b : Bool). a && not b) (k .occupied) (k .pending));
-        others = λ r q l n. go r q l n (ℕ-discrete r s);
+        others = λ r q u l n. go r q l (λ e p. n (record { span = e; slot = p })) (ℕ-discrete r s);
       }
     where
       clear : (q : ℕ) → q < mostSlots → (WasPending g t s q → ⊥) → isPending t s q ≡ false
       clear q l n =
-          ⊎-elim (λ p. absurd (n (means-pending g t s q (record { occupied = f .spans s h .pending q l p .1; pending = p })))) (λ p. p)
+          ⊎-elim (λ p. absurd (n (pending-so g t s q (record { occupied = f .spans s h .pending q l p .1; pending = p })))) (λ p. p)
           (tested (isPending t s q))
 
       go : (r q : ℕ) → q < mostSlots → (r ≡ s → WasPending g t s q → ⊥) → Dec (r ≡ s) → stateOf g (reclaimPending t s) r q ≡ stateOf g t r q
@@ -189,13 +191,13 @@ module _ (g : Shape) (t : Tables) (f : Filled g t) (s : ℕ) (h : s < t .used) w
   folded-kept = by-pending (Filled g) reclaim-kept (λ e. f)
 
   -- Every pending block of the span is free, and every other block is as before.
-  pub folded-states : Becomes g t (folded t s) s (WasPending g t s) Free
+  pub folded-states : Becomes g t (folded t s) (SlotsOf s (WasPending g t s)) Free
   folded-states =
-      by-pending (λ u. Becomes g t u s (WasPending g t s) Free) reclaim-states
+      by-pending (λ u. Becomes g t u (SlotsOf s (WasPending g t s)) Free) reclaim-states
       (λ e.
       record {
-        named = λ q l p. absurd (true≢false (sym (pending-means g t s q p .pending) ∙ unset-slot e q l));
-        others = λ r q l n. refl;
+        named = λ r q u l p. absurd (true≢false (sym (pending-says g t s q (p .slot) .pending) ∙ unset-slot e q l));
+        others = λ r q u l n. refl;
       })
 
   -- Nothing of the span is pending afterwards, by its slots and by its summary.

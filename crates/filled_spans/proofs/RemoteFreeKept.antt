@@ -23,8 +23,9 @@ use Rattle.span.specs.Room.{WordCells}
 use Rattle.span.proofs.CellsThere.{word-there}
 use Rattle.sound.specs.Sound.{homeOf}
 use Rattle.sound.specs.Filled.{Filled}
+use Rattle.sound.specs.States.{Becomes, Block}
+use Rattle.sound.proofs.StateTests.{isKept, out-says, pending-so}
 use Rattle.filled_spans.proofs.SpanValues.{slot-place, home-most, same-loaded, filled-cells, filled-right, RemoteRight, filled-remote}
-use Rattle.filled_spans.proofs.BlockStates.{isKept, Becomes, out-means, means-pending}
 use Rattle.filled_spans.proofs.FilledKept.{OnlyOccupancy, other-state}
 use Rattle.filled_spans.proofs.OwnSpan.{kept-means, own-state, filled-own}
 
@@ -178,7 +179,7 @@ module _ (g : Shape) (t : Tables) (f : Filled g t) (s : ℕ) (h : s < t .used) (
   -- The table stays filled.
   pub remote-kept : Filled g (remoteFree t s q)
   remote-kept =
-      let was = out-means g t s q out in
+      let was = out-says g t s q out in
       filled-own g t (remoteFree t s q) s (remote-only t s cells q below) f h
       (subst (Right (homeOf g t s .slots)) (sym (remote-loaded t s cells q below)) (filled-right g t f s h))
       (remote-right t s cells q below (homeOf g t s .slots) inside (was .occupied)
@@ -190,18 +191,18 @@ module _ (g : Shape) (t : Tables) (f : Filled g t) (s : ℕ) (h : s < t .used) (
       ))
 
   -- The block is pending, and every other block is as before.
-  pub remote-states : Becomes g t (remoteFree t s q) s (λ p. p ≡ q) Pending
+  pub remote-states : Becomes g t (remoteFree t s q) (Block s q) Pending
   remote-states =
       record {
         named =
-            λ p l e.
-            ap (stateOf g (remoteFree t s q) s) e
-            ∙ means-pending g (remoteFree t s q) s q
+            λ r p u l e.
+            ap₂ (stateOf g (remoteFree t s q)) (e .span) (e .slot)
+            ∙ pending-so g (remoteFree t s q) s q
             (record {
-              occupied = remote-occupied t s cells q below q below ∙ out-means g t s q out .occupied;
+              occupied = remote-occupied t s cells q below q below ∙ out-says g t s q out .occupied;
               pending = remote-pending t s cells q below;
             });
-        others = λ r p l n. go r p l n (ℕ-discrete r s);
+        others = λ r p u l n. go r p l (λ e d. n (record { span = e; slot = d })) (ℕ-discrete r s);
       }
     where
       go : (r p : ℕ) → p < mostSlots → (r ≡ s → p ≡ q → ⊥) → Dec (r ≡ s) → stateOf g (remoteFree t s q) r p ≡ stateOf g t r p

@@ -23,8 +23,9 @@ use Rattle.span.specs.Room.{WordCells, SpanCells}
 use Rattle.span.proofs.CellsThere.{local-there, part-long}
 use Rattle.sound.specs.Sound.{homeOf}
 use Rattle.sound.specs.Filled.{Filled}
+use Rattle.sound.specs.States.{Becomes}
+use Rattle.sound.proofs.StateTests.{isKept}
 use Rattle.filled_spans.proofs.SpanValues.{slot-place, loaded-word, taken-occupied, filled-cells}
-use Rattle.filled_spans.proofs.BlockStates.{isKept, Becomes}
 use Rattle.filled_spans.proofs.FilledKept.{OnlyOccupancy, other-state}
 use Rattle.filled_spans.proofs.OwnSpan.{kept-means, own-state, filled-own}
 use Rattle.filled_spans.proofs.SpanStores.{words-in, words-other, words-length, field-in-place, field-other}
@@ -147,20 +148,25 @@ module _ (g : Shape) (t : Tables) (f : Filled g t) (s : ℕ) (h : s < t .used) (
       own-state g t (stored t s o) s (stored-only t s cells o (r .long)) q
       (stored-occupied t s cells o (r .long) q l ∙ e ∙ taken-occupied t s q l) (stored-pending t s cells o (r .long) q l)
 
-  -- Where the slots that are not named are taken as before, and the named come to a state, that is what became of the blocks.
+  -- Where the slots of the span that are not named are taken as before, and the named come to a state, that is what became of the blocks.
   pub stored-becomes :
-      (Named : ℕ → Type 0) {state : BlockState} →
-      ((q : ℕ) → q < mostSlots → Named q → stateOf g (stored t s o) s q ≡ state) →
-      ((q : ℕ) → q < mostSlots → (Named q → ⊥) → isTaken o q ≡ isTaken (loaded t s) q) →
-      Becomes g t (stored t s o) s Named state
-  stored-becomes Named named same =
+      (Named : ℕ → ℕ → Type 0) {state : BlockState} →
+      ((i q : ℕ) → Named i q → i ≡ s) →
+      ((q : ℕ) → q < mostSlots → Named s q → stateOf g (stored t s o) s q ≡ state) →
+      ((q : ℕ) → q < mostSlots → (Named s q → ⊥) → isTaken o q ≡ isTaken (loaded t s) q) →
+      Becomes g t (stored t s o) Named state
+  stored-becomes Named {state} here named same =
       record {
-        named = named;
+        named =
+            λ i q u l n.
+            let e = here i q n in
+            subst (λ (z : ℕ). stateOf g (stored t s o) z q ≡ state) (sym e) (named q l (subst (λ (z : ℕ). Named z q) e n));
         others =
-            λ i q l n.
+            λ i q u l n.
             elim (ℕ-discrete i s) [
               | yes e ↦
-                  subst (λ (z : ℕ). stateOf g (stored t s o) z q ≡ stateOf g t z q) (sym e) (stored-same q l (same q l (n e)))
+                  subst (λ (z : ℕ). stateOf g (stored t s o) z q ≡ stateOf g t z q) (sym e)
+                  (stored-same q l (same q l (λ m. n (subst (λ (z : ℕ). Named z q) (sym e) m))))
               | no z ↦ other-state g t (stored t s o) s (stored-only t s cells o (r .long) .span) i z q l
             ];
       }

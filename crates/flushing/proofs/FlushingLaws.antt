@@ -1,8 +1,8 @@
 -- Slots back to their spans, a call at a time; and what that keeps. Assumes nothing.
-use mathlib.Core.Path.{_≡_, refl, sym, ap, ap₂, _∙_}
-use mathlib.Core.Bool.{Bool, true, false, cond}
+use mathlib.Core.Path.{_≡_, refl, sym, _∙_}
+use mathlib.Core.Bool.{true, false, cond}
 use mathlib.Core.List.{List}
-use Prim.Native.Nat.{ℕ, zero, suc, _+_, _-_, _<_, _≤_}
+use Prim.Native.Nat.{ℕ, zero, suc, _-_, _<_, _≤_}
 use native.Mathlib.Numerals.{sub-one}
 use native.Mathlib.Omega.{arith}
 use borrow.Author.Tests.{lt-ltb, le-ltb, ltb-true}
@@ -13,7 +13,6 @@ use Rattle.size_classes.specs.Slots.{mostSlots}
 use Rattle.tables.specs.declared.ClassHeap.{ClassHeap}
 use Rattle.tables.specs.Shape.{Shape, classHeap}
 use Rattle.tables.specs.Cells.{Tables, tables, occupiedAt, partialList, fullList, countAt, entrySpan, entrySlot}
-use Rattle.magazine.specs.Room.{Room}
 use Rattle.magazine.specs.Magazine.{topEntry, popEntry}
 use Rattle.magazine.proofs.MagazineLaws.{pop-count}
 use Rattle.linked_list.proofs.QuietLaws.{quiet-count}
@@ -21,13 +20,14 @@ use Rattle.span.specs.Span.{stored, isFull, isEmpty, deallocSlot}
 use Rattle.class_heap.specs.Steps.{refile, giveBack, flushOne, flush}
 use Rattle.sound.specs.Sound.{homeOf}
 use Rattle.sound.specs.Filled.{Filled}
-use Rattle.filled_magazines.proofs.FilledFacts.{filled-room, belongs-home}
-use Rattle.filled_magazines.proofs.MagazineSteps.{Loose, pop-entry-filled, popped-loose}
+use Rattle.filled_magazines.proofs.FilledFacts.{belongs-home}
+use Rattle.filled_magazines.specs.Pushable.{OutEntry}
+use Rattle.filled_magazines.proofs.MagazineSteps.{pop-entry-filled, popped-out}
 use Rattle.filled_spans.proofs.SpanValues.{home-most}
 use Rattle.filled_spans.proofs.ReleaseKept.{release-only, release-kept, release-occupied}
 use Rattle.placing.specs.Working.{Working}
 use Rattle.placing.proofs.PlacingQuiet.{refile-quiet}
-use Rattle.placing.proofs.PlacingKept.{working-on, working-as, refile-working}
+use Rattle.placing.proofs.PlacingKept.{working-on, working-room, working-as, refile-working}
 use Rattle.flushing.specs.Returnable.{Returnable}
 
 -- ---- one slot
@@ -91,32 +91,29 @@ module _ (t t₁ t′ : Tables) (k : ClassHeap) (s q : ℕ) (p : t₁ ≡ deallo
 -- ---- the top entry
 
 -- An entry's slot is one of its span.
-pub loose-inside :
-    (g : Shape) (t : Tables) (k : ClassHeap) (h c : ℕ) → k ≡ classHeap g h c → (e : ℕ) → Loose g t k e →
+pub out-inside :
+    (g : Shape) (t : Tables) (k : ClassHeap) (h c : ℕ) → k ≡ classHeap g h c → (e : ℕ) → OutEntry g t k e →
     entrySlot e < homeOf g t (entrySpan e) .slots
-loose-inside g t k h c named e m =
+out-inside g t k h c named e m =
     let z : homeOf g t (entrySpan e) ≡ k = belongs-home g t h c (entrySpan e) (rw (named) at m .belongs) ∙ sym named in
     rw z (m .inRange)
 
 module _ {n : ℕ} {k : ClassHeap} {t : Tables} (w : Working n k t) where
-  pub working-room : Room (t .entries) (t .heads) k
-  working-room = rw (w .named) (filled-room (w .filled) (w .inHeaps) (w .inClasses))
-
   module _ (some : 0 < countAt t k) where
     pub popped-filled : Filled (w .shape) (popEntry t k)
     popped-filled = rw (w .named) (pop-entry-filled (w .filled) (w .inHeaps) (w .inClasses) (rw (w .named) at some))
 
-    pub top-loose : Loose (w .shape) (popEntry t k) k (topEntry t k)
-    top-loose = rw (w .named) (popped-loose (w .filled) (w .inHeaps) (w .inClasses) (rw (w .named) at some))
+    pub top-out : OutEntry (w .shape) (popEntry t k) k (topEntry t k)
+    top-out = rw (w .named) (popped-out (w .filled) (w .inHeaps) (w .inClasses) (rw (w .named) at some))
 
     -- its block may go back to its span
     abbrev pub top-returnable : Returnable n k (popEntry t k) (entrySpan (topEntry t k)) (entrySlot (topEntry t k))
     top-returnable =
         record {
           working = working-on w popped-filled;
-          used = top-loose .belongs .used;
-          inside = loose-inside (w .shape) (popEntry t k) k (w .heap) (w .class) (w .named) (topEntry t k) top-loose;
-          out = top-loose .out;
+          used = top-out .belongs .used;
+          inside = out-inside (w .shape) (popEntry t k) k (w .heap) (w .class) (w .named) (topEntry t k) top-out;
+          out = top-out .out;
         }
 
     pub popped-returnable :
@@ -134,7 +131,7 @@ module _ {n : ℕ} {k : ClassHeap} {t : Tables} (w : Working n k t) where
     pub flush-one-count : countAt (flushOne t k) k ≡ countAt t k - 1
     unfolding flushOne
     flush-one-count =
-        give-back-count (popEntry t k) k (entrySpan (topEntry t k)) (entrySlot (topEntry t k)) k ∙ pop-count t k working-room some
+        give-back-count (popEntry t k) k (entrySpan (topEntry t k)) (entrySlot (topEntry t k)) k ∙ pop-count t k (working-room w) some
 
 pub flush-one-made :
     (t t₁ t′ : Tables) (k : ClassHeap) (e s q : ℕ) → e ≡ topEntry t k → s ≡ entrySpan e → q ≡ entrySlot e → t₁ ≡ popEntry t k →

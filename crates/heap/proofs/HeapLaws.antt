@@ -23,7 +23,7 @@ use Rattle.filled_magazines.proofs.FilledFacts.{slots-within, capacity-within, 
 use Rattle.calls.specs.Outcome.{Outcome, ended, outcome, refused}
 use Rattle.calls.specs.Heap.{granted, refillFirst, draw, allocSmall, flushFirst, deallocLocal}
 use Rattle.placing.specs.Working.{Working}
-use Rattle.claiming.proofs.ClaimingLaws.{working-room, entries-few}
+use Rattle.placing.proofs.PlacingKept.{working-room}
 use Rattle.refilling.specs.Fronts.{Fronts}
 use Rattle.refilling.proofs.RefillingLaws.{refill-working, refill-words}
 use Rattle.flushing.proofs.FlushingLaws.{flush-working, flush-makes-room}

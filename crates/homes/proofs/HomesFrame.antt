@@ -2,23 +2,22 @@
 -- the table is filled afterwards. Assumes nothing.
 use mathlib.Core.Path.{_≡_, refl, sym, ap, subst, _∙_}
 use mathlib.Core.List.{List}
-use Prim.Native.Nat.{ℕ, _+_, _<_, _≤_}
+use Prim.Native.Nat.{ℕ, _+_, _≤_}
 use native.Mathlib.Omega.{arith}
 use native.Mathlib.Decide.{ℕ-discrete}
 use lib.ListN.{getD}
 use Rattle.laws.proofs.ListedLaws.{listed-as}
 use Rattle.tables.specs.declared.ClassHeap.{ClassHeap}
 use Rattle.tables.specs.Shape.{Shape}
-use Rattle.tables.specs.Cells.{Tables, classField, ownerField, occupiedField, previousField, nextField, classAt, ownerAt, occupiedAt, spanField}
+use Rattle.tables.specs.Cells.{Tables, classField, ownerField, occupiedField, previousField, nextField, classAt, ownerAt, occupiedAt}
 use Rattle.tables.proofs.CellLaws.{list-in}
 use Rattle.magazine.specs.Held.{OnlyMagazine}
 use Rattle.linked_list.specs.Quiet.{Quiet}
-use Rattle.linked_list.specs.Named.{headsAt, RowName, ListName, ListedIn}
+use Rattle.linked_list.specs.Named.{headsAt, RowName, ListedIn}
 use Rattle.linked_list.proofs.QuietLaws.{quiet-class, quiet-owner, quiet-occupied}
-use Rattle.sound.specs.Sound.{Belongs}
 use Rattle.sound.specs.Filled.{Filled}
 use Rattle.filled_spans.proofs.FilledKept.{OnlyOccupancy, only-field, only-belongs}
-use Rattle.homes.specs.Homes.{AtHome, Near, Whole, Loose, Ready}
+use Rattle.homes.specs.Homes.{AtHome, Near, Whole, Loose}
 
 -- span s has the class, owner and count in u that it has in t
 pub record SameRecord (t u : Tables) (s : ℕ) : Type 0 where

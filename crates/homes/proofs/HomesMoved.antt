@@ -11,11 +11,11 @@ use Rattle.tables.specs.declared.ClassHeap.{ClassHeap}
 use Rattle.tables.specs.Shape.{Shape, classes, rowOf, classHeap}
 use Rattle.tables.specs.Cells.{Tables, classAt, ownerAt, occupiedAt, headCell, headAt, setHead, partialList, fullList, emptyList, reserve}
 use Rattle.tables.proofs.CellLaws.{head-same, list-in, rows-same}
-use Rattle.linked_list.specs.Lists.{push, remove, pop}
+use Rattle.linked_list.specs.Lists.{push, remove}
 use Rattle.linked_list.specs.Reach.{Links}
 use Rattle.linked_list.specs.Named.{RowName, ListName, ReserveName, noList}
 use Rattle.linked_list.proofs.ReachLaws.{head-here}
-use Rattle.linked_list.proofs.ListCells.{push-pushed, remove-removed}
+use Rattle.linked_list.proofs.ListCells.{remove-removed}
 use Rattle.linked_list.proofs.ListedKept.{no-list, list-name, row-name, push-listed, put-listed, remove-listed, take-listed}
 use Rattle.linked_list.proofs.QuietLaws.{push-quiet, remove-quiet, head-quiet}
 use Rattle.span.specs.Span.{loaded}
@@ -26,7 +26,7 @@ use Rattle.filled_magazines.proofs.SameSpans.{same-belongs}
 use Rattle.filled_magazines.proofs.ListSteps.{quiet-spans, push-filled, remove-filled, front-none-filled, front-span-filled}
 use Rattle.filled_spans.proofs.SpanValues.{filled-right}
 use Rattle.homes.specs.Homes.{Fits, AtHome, Near, Whole, Loose, But, Ready}
-use Rattle.homes.proofs.FitsLaws.{fits-empty, full-fits, partial-fits}
+use Rattle.homes.proofs.FitsLaws.{full-fits, partial-fits}
 use Rattle.homes.proofs.HomesFrame.{near-but, near-moved}
 
 -- a span in no list of the table
@@ -113,25 +113,37 @@ module _ {g : Shape} {h c : ℕ} (hh : h < g .heaps) (hc : c < classes g) where
 
     -- a span of it is in a list of it, by its count
     module _ {a : ℕ} (o : Whole g t) (b : Belongs t (classHeap g h c) a) where
-      here : AtHome g t a (o .home a)
+      -- it is at home
+      abbrev here : AtHome g t a (o .home a)
       here = o .near .homes a (b .used) (λ q. omega arith)
 
-      in-row : o .home a ≡ headCell (classHeap g h c .row) (here .kind)
-      in-row = here .cell ∙ ap (λ (r : ℕ). headCell r (here .kind)) (belongs-row g t h c b)
+      -- which list
+      abbrev pub own-kind : ℕ
+      own-kind = here .kind
 
-      fits-here : Fits (here .kind) (occupiedAt t a) (classHeap g h c .slots)
-      fits-here = subst (λ (k : ClassHeap). Fits (here .kind) (occupiedAt t a) (k .slots)) (belongs-home g t h c a b) (here .fits)
+      -- its head
+      pub own-cell : o .home a ≡ headCell (classHeap g h c .row) own-kind
+      own-cell = here .cell ∙ ap (λ (r : ℕ). headCell r own-kind) (belongs-row g t h c b)
 
-      -- a full one in the full list
+      -- the count is as its name says
+      pub own-fits : Fits own-kind (occupiedAt t a) (classHeap g h c .slots)
+      own-fits = subst (λ (k : ClassHeap). Fits own-kind (occupiedAt t a) (k .slots)) (belongs-home g t h c a b) (here .fits)
+
+      -- so it is that span in that list, whatever its count becomes
+      pub own-loose : Loose g t (classHeap g h c) own-kind a
+      own-loose = member o (own-fits .low) own-cell .0
+
+      -- a full one is at home in the full list
       pub full-home : occupiedAt t a ≡ classHeap g h c .slots → o .home a ≡ headCell (classHeap g h c .row) fullList
-      full-home e = in-row ∙ ap (headCell (classHeap g h c .row)) (full-fits fits-here (slots-some g h c) e)
+      full-home e = own-cell ∙ ap (headCell (classHeap g h c .row)) (full-fits own-fits (slots-some g h c) e)
 
+      -- the same, whatever its count becomes
       pub full-loose : occupiedAt t a ≡ classHeap g h c .slots → Loose g t (classHeap g h c) fullList a
       full-loose e = member o (omega arith) (full-home e) .0
 
-      -- one neither empty nor full in the partial list
+      -- and one neither empty nor full is in the partial list
       pub partial-loose : 0 < occupiedAt t a → occupiedAt t a < classHeap g h c .slots → Loose g t (classHeap g h c) partialList a
-      partial-loose lo hi = member o (omega arith) (in-row ∙ ap (headCell (classHeap g h c .row)) (partial-fits fits-here lo hi)) .0
+      partial-loose lo hi = member o (omega arith) (own-cell ∙ ap (headCell (classHeap g h c .row)) (partial-fits own-fits lo hi)) .0
 
   -- ---- push and remove
 

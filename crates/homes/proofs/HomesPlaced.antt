@@ -10,12 +10,10 @@ use lib.Seq.{getD-set-same}
 use Rattle.laws.specs.Listed.{changed}
 use Rattle.laws.proofs.ListedLaws.{changed-same, changed-other}
 use Rattle.laws.proofs.CondLaws.{cond-both}
-use Rattle.tables.specs.declared.ClassHeap.{ClassHeap}
 use Rattle.tables.specs.Shape.{Shape, classes, classHeap}
 use Rattle.tables.specs.Cells.{Tables, occupiedAt, nextAt, headCell, headAt, setHead, partialList, fullList, emptyList, reserve}
-use Rattle.tables.proofs.CellLaws.{head-same, list-in}
 use Rattle.linked_list.specs.Lists.{push}
-use Rattle.linked_list.specs.Named.{RowName, ListName, ReserveName, noList, ListedIn}
+use Rattle.linked_list.specs.Named.{RowName, ListName, noList, ListedIn}
 use Rattle.linked_list.proofs.ReachLaws.{head-here}
 use Rattle.linked_list.proofs.ListedKept.{no-list, put-listed, take-listed, put-again}
 use Rattle.linked_list.proofs.QuietLaws.{push-quiet, head-quiet, quiet-occupied}
@@ -24,7 +22,7 @@ use Rattle.class_heap.specs.Steps.{demote, releaseEmpty, place, refile}
 use Rattle.sound.specs.Sound.{Belongs}
 use Rattle.filled_magazines.proofs.SameSpans.{same-belongs}
 use Rattle.filled_magazines.proofs.ListSteps.{quiet-spans, front-none-filled, front-span-filled}
-use Rattle.homes.specs.Homes.{Fits, AtHome, Near, Whole, Loose, But}
+use Rattle.homes.specs.Homes.{Fits, AtHome, Whole, Loose, But}
 use Rattle.homes.proofs.FitsLaws.{fits-partial, fits-full, fits-empty}
 use Rattle.homes.proofs.HomesFrame.{SameRecord, home-as}
 use Rattle.homes.proofs.HomesMoved.{unlisted, class-row, class-list, count-within-slots, at-home, settle, member-near, reach, push-kept, remove-kept, put-kept}

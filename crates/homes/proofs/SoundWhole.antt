@@ -1,7 +1,7 @@
 -- A sound table is whole, and a whole one is sound: homes say what the lists spelled out say. Assumes nothing.
 use mathlib.Core.Path.{_≡_, refl, sym, ap, subst, _∙_}
 use mathlib.Core.Bool.{true}
-use Prim.Native.Nat.{ℕ, _+_, _-_, _<_, _≤_}
+use Prim.Native.Nat.{ℕ, _-_, _<_, _≤_}
 use native.Mathlib.Omega.{arith}
 use borrow.Author.Tests.{lt-ltb}
 use Rattle.laws.specs.Members.{Mem}
@@ -82,6 +82,7 @@ module _ {g : Shape} {t : Tables} (o : Whole g t) where
   mine : (s : ℕ) → s < t .used → o .home s ≡ headCell (rowAt g t s) (kind s)
   mine s h = here s h .cell ∙ ap (headCell (rowAt g t s)) (sym (same s h))
 
+  -- their classes and owners are valid
   class-in : (s : ℕ) → s < t .used → classAt t s < classes g
   class-in s h = o .near .filled .spans s h .class
 

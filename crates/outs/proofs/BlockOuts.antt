@@ -1,8 +1,8 @@
 -- The steps that take one block out or bring one back: a draw and a pop, a push, a slot back to its span, a free by another heap; and a flush, which
 -- does both to each block it returns. Assumes nothing.
-use mathlib.Core.Path.{_≡_, refl, sym, _∙_}
-use mathlib.Core.Bool.{Bool, cond}
-use Prim.Native.Nat.{ℕ, zero, suc, _+_, _-_, _<_, _≤_}
+use mathlib.Core.Path.{sym, _∙_}
+use mathlib.Core.Bool.{cond}
+use Prim.Native.Nat.{ℕ, zero, suc, _<_}
 use native.Mathlib.Omega.{arith}
 use borrow.Author.Tests.{ltb-true}
 use lib.Dec.{ltb}
@@ -17,7 +17,7 @@ use Rattle.class_heap.specs.Steps.{refile, giveBack, flushOne, flush}
 use Rattle.sound.specs.Sound.{homeOf, Belongs, EntrySound}
 use Rattle.sound.specs.Filled.{Filled}
 use Rattle.filled_magazines.proofs.FilledFacts.{belongs-home, filled-room}
-use Rattle.filled_magazines.proofs.StateLaws.{free-no-out, pending-no-out, cached-no-out}
+use Rattle.sound.proofs.StateTests.{free-no-out, pending-no-out, cached-no-out}
 use Rattle.filled_magazines.proofs.MagazineSteps.{top-is-cached, top-sound, drawn-is-cached, drawn-sound, push-entry-becomes, pop-entry-becomes, draw-entry-becomes}
 use Rattle.filled_spans.proofs.SpanValues.{filled-cells}
 use Rattle.filled_spans.proofs.ReleaseKept.{release-only, release-states}
@@ -78,9 +78,11 @@ module _ {g : Shape} {t : Tables} (o : Filled g t) {h c : ℕ} (hh : h < g .heap
 -- The same of a working table, whose class of a heap has a name.
 module _ {n : ℕ} {k : ClassHeap} {t : Tables} (w : Working n k t) where
   module _ (some : 0 < countAt t k) where
+    -- A pop takes the top entry's block out.
     pub pop-comes : ComesOut (w .shape) t (popEntry t k) (entrySpan (topEntry t k)) (entrySlot (topEntry t k))
     pop-comes = rw (w .named) (pop-out (w .filled) (w .inHeaps) (w .inClasses) (rw (w .named) at some))
 
+    -- A draw takes the drawn entry's block out.
     pub draw-comes :
         (word : ℕ) →
         ComesOut (w .shape) t (drawEntry t k word) (entrySpan (entryAt t k (drawnAt t k word))) (entrySlot (entryAt t k (drawnAt t k word)))
@@ -90,6 +92,7 @@ module _ {n : ℕ} {k : ClassHeap} {t : Tables} (w : Working n k t) where
     pub draw-belongs : (word : ℕ) → Belongs t k (entrySpan (entryAt t k (drawnAt t k word)))
     draw-belongs word = rw (w .named) (drawn-sound (w .filled) (w .inHeaps) (w .inClasses) (rw (w .named) at some) word .belongs)
 
+  -- A push brings a block back that is out, where there is room.
   pub push-goes :
       {s q : ℕ} → Belongs t k s → IsOut (w .shape) t s q → countAt t k < k .capacity → GoesBack (w .shape) t (pushEntry t k (entryOf s q)) s q
   push-goes b i free =
@@ -102,17 +105,13 @@ module _ (g : Shape) (t : Tables) (f : Filled g t) (s q : ℕ) (i : IsOut g t s 
   pub release-goes : GoesBack g t (deallocSlot t s q) s q
   release-goes =
       let only = release-only g t f s (i .used) q (i .slot) (i .out) in
-      let z = release-states g t f s (i .used) q (i .slot) (i .out) in
-      becomes-goes (occupancy-spans only) (only .used)
-      (record { this = z .named q (out-within i) refl; others = λ x y l m n. z .others x y m n }) free-no-out i
+      becomes-goes (occupancy-spans only) (only .used) (release-states g t f s (i .used) q (i .slot) (i .out)) free-no-out i
 
   -- or waits to be folded.
   pub remote-goes : GoesBack g t (remoteFree t s q) s q
   remote-goes =
       let only = remote-only t s (filled-cells g t f s (i .used) .words) q (out-within i) in
-      let z = remote-states g t f s (i .used) q (i .slot) (i .out) in
-      becomes-goes (occupancy-spans only) (only .used)
-      (record { this = z .named q (out-within i) refl; others = λ x y l m n. z .others x y m n }) pending-no-out i
+      becomes-goes (occupancy-spans only) (only .used) (remote-states g t f s (i .used) q (i .slot) (i .out)) pending-no-out i
 
 -- A slot given back, with its span placed anew.
 pub give-back-goes : {n : ℕ} {k : ClassHeap} {t : Tables} {s q : ℕ} (r : Returnable n k t s q) → GoesBack (r .working .shape) t (giveBack t k s q) s q
@@ -130,10 +129,12 @@ give-back-goes {n} {k} {t} {s} {q} r =
 
 -- ---- a flush leaves the same blocks out
 
+-- The top entry's block comes out and goes back to its span.
 pub flush-one-outs : {n : ℕ} {k : ClassHeap} {t : Tables} (w : Working n k t) → 0 < countAt t k → SameOuts (w .shape) t (flushOne t k)
 unfolding flushOne
 flush-one-outs w some = comes-goes (pop-comes w some) (give-back-goes (top-returnable w some))
 
+-- The same for each entry down to low water.
 pub flush-outs : (i : ℕ) {n : ℕ} {k : ClassHeap} {t : Tables} (w : Working n k t) → SameOuts (w .shape) t (flush i t k)
 unfolding flush
 flush-outs zero {t = t} w = same-outs (w .shape) t

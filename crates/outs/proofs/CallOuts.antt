@@ -1,9 +1,9 @@
 -- An allocation takes at most one block out, and a free brings one back, whoever frees it; every other block that is out stays so. Assumes nothing.
 use mathlib.Core.Path.{_≡_, refl}
-use mathlib.Core.Bool.{Bool, true, cond}
+use mathlib.Core.Bool.{true}
 use mathlib.Core.List.{List}
 use mathlib.Core.Logic.{_⊎_, inl, inr}
-use Prim.Native.Nat.{ℕ, _+_, _<_, _≤_}
+use Prim.Native.Nat.{ℕ, _+_, _<_}
 use native.Mathlib.Omega.{arith}
 use borrow.Author.Tests.{eqb-true, eqb-false}
 use lib.ListN.{getD}
@@ -13,14 +13,15 @@ use Rattle.tables.specs.declared.ClassHeap.{ClassHeap}
 use Rattle.tables.specs.Cells.{Tables, countAt, entryAt, entryOf, entrySlot}
 use Rattle.magazine.specs.Magazine.{needsRefill, isFull, pushEntry, drawnAt}
 use Rattle.span.specs.Span.{remoteFree}
-use Rattle.class_heap.specs.Steps.{Refilled, refill, refilled, flush}
-use Rattle.calls.specs.Outcome.{Outcome, refused}
+use Rattle.class_heap.specs.Steps.{refill, refilled, flush}
+use Rattle.calls.specs.Outcome.{refused}
 use Rattle.calls.specs.Heap.{granted, draw, allocSmall, deallocLocal, refillFirst, flushFirst}
 use Rattle.calls.specs.Primary.{deallocSmall}
 use Rattle.sound.specs.Sound.{Belongs}
 use Rattle.filled_magazines.proofs.FilledFacts.{capacity-some, full-above-low}
 use Rattle.placing.specs.Working.{Working}
-use Rattle.flushing.proofs.FlushingLaws.{working-room, flush-working, flush-makes-room}
+use Rattle.placing.proofs.PlacingKept.{working-room}
+use Rattle.flushing.proofs.FlushingLaws.{flush-working, flush-makes-room}
 use Rattle.refilling.specs.Fronts.{Fronts}
 use Rattle.refilling.proofs.RefillingLaws.{refill-working}
 use Rattle.outs.specs.Outs.{IsOut, SameOuts, GoesBack}

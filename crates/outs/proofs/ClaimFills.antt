@@ -1,16 +1,16 @@
 -- A claim and a refill take no block out and bring none back, and what is cached stays cached: the slots of a claim were free and become cached.
 -- Assumes nothing.
 use mathlib.Core.Path.{_≡_, refl, sym, ap, subst, _∙_}
-use mathlib.Core.Bool.{Bool, true, false, true≢false, cond}
+use mathlib.Core.Bool.{true≢false, cond}
 use mathlib.Core.List.{List}
-use mathlib.Core.Logic.{_⊎_, inl, inr, ⊎-elim}
-use Prim.Native.Nat.{ℕ, zero, suc, _+_, _-_, _*_, _/_, _%_, _<_, _≤_}
+use mathlib.Core.Logic.{⊎-elim}
+use Prim.Native.Nat.{ℕ, zero, suc, _+_, _-_, _/_, _%_, _<_}
 use native.Mathlib.Nat.{lt-of-lt-of-le}
 use native.Mathlib.Decide.{ℕ-discrete}
 use native.Mathlib.Omega.{arith}
 use borrow.Author.Tests.{eqb-false, ltb-true}
-use lib.ListN.{length, getD}
-use lib.Dec.{eqb, ltb, lit<}
+use lib.ListN.{getD}
+use lib.Dec.{ltb}
 use Rattle.laws.specs.Word.{isSet}
 use Rattle.laws.proofs.CondLaws.{cond-both}
 use Rattle.laws.proofs.FirstLaws.{tested}
@@ -19,28 +19,28 @@ use Rattle.occupancy.specs.declared.Claimed.{Claimed}
 use Rattle.occupancy.specs.declared.Claimed.the-variants.{Nothing, Taken}
 use Rattle.tables.specs.declared.ClassHeap.{ClassHeap}
 use Rattle.tables.specs.Shape.{Shape}
-use Rattle.tables.specs.Cells.{Tables, countAt, headAt, partialList, entryOf, entrySpan, entrySlot}
-use Rattle.tables.proofs.CellLaws.{entry-span, entry-slot}
+use Rattle.tables.specs.Cells.{Tables, countAt, headAt, partialList}
 use Rattle.magazine.specs.Magazine.{pushEntries}
 use Rattle.magazine.specs.Held.{OnlyMagazine}
 use Rattle.magazine.proofs.OtherMagazines.{pushes-only}
-use Rattle.span.specs.Span.{stored, folded, claimedEntries}
-use Rattle.span.specs.declared.BlockState.the-variants.{Cached, Out}
+use Rattle.span.specs.Span.{stored, claimedEntries}
+use Rattle.span.specs.declared.BlockState.the-variants.{Free, Cached, Out}
 use Rattle.span.specs.State.{stateOf}
-use Rattle.class_heap.specs.Steps.{ifFull, taken, claimOf, claimFrom, claimFront, noPartial, replenish, Refilled, refill, refilled}
+use Rattle.class_heap.specs.Steps.{taken, claimOf, claimFrom, claimFront, noPartial, replenish, Refilled, refill, refilled}
+use Rattle.sound.specs.States.{Becomes, SlotsOf, EntriesOf}
 use Rattle.filled_magazines.proofs.FilledFacts.{entry-same}
-use Rattle.filled_magazines.proofs.Becomes.{AllBecome}
-use Rattle.filled_magazines.proofs.PushesSteps.{Pushable, push-entries-become}
+use Rattle.filled_magazines.specs.Pushable.{Pushable}
+use Rattle.filled_magazines.proofs.PushesSteps.{push-entries-become}
 use Rattle.filled_spans.proofs.SpanValues.{home-most}
-use Rattle.filled_spans.proofs.BlockStates.{Becomes}
 use Rattle.filled_spans.proofs.FilledKept.{OnlyOccupancy}
-use Rattle.filled_spans.proofs.ClaimKept.{InMask, claimedOf, claim-only, claim-inside, claim-were-free, claim-none-states, claim-states}
+use Rattle.filled_spans.proofs.ClaimKept.{InMask, claim-only, claim-inside, claim-were-free, claim-none-states, claim-states}
 use Rattle.placing.specs.Working.{Working}
 use Rattle.placing.proofs.PlacingQuiet.{if-full-quiet}
+use Rattle.placing.proofs.PlacingKept.{working-room}
 use Rattle.replenishing.proofs.ReplenishingLaws.{replenish-working}
-use Rattle.claiming.specs.Claimable.{Claimable, Own, Fronted}
-use Rattle.claiming.proofs.ClaimedEntries.{claimed-entry, claimed-stands}
-use Rattle.claiming.proofs.ClaimingLaws.{pushable-named, working-room, claim-claimable, fold-own, claim-front-working}
+use Rattle.claiming.specs.Claimable.{Own, Fronted}
+use Rattle.claiming.proofs.ClaimedEntries.{claimed-entry, claimed-has}
+use Rattle.claiming.proofs.ClaimingLaws.{pushable-named, claim-claimable, fold-own, claim-front-working}
 use Rattle.refilling.specs.Fronts.{Fronts}
 use Rattle.outs.specs.Outs.{SameOuts}
 use Rattle.outs.proofs.OutsLaws.{spans-then, magazine-spans, occupancy-spans}
@@ -60,9 +60,11 @@ in-mask-or i mask q =
 -- ---- what enters the magazine
 
 module _ {n : ℕ} {k : ClassHeap} {t : Tables} (w : Working n k t) {es : List ℕ} (p : Pushable (w .shape) t k es) where
-  entries-cached : AllBecome (w .shape) t (pushEntries es t k) es Cached
+  -- The blocks of the entries become cached.
+  entries-cached : Becomes (w .shape) t (pushEntries es t k) (EntriesOf es) Cached
   entries-cached = rw (w .named) (push-entries-become (w .filled) (w .inHeaps) (w .inClasses) (pushable-named (sym (w .named)) p))
 
+  -- Nothing but the magazine changes.
   entries-only : OnlyMagazine t (pushEntries es t k) k
   entries-only = pushes-only es t k (working-room w) (p .fits)
 
@@ -99,40 +101,42 @@ module _ {n : ℕ} {k : ClassHeap} {t : Tables} {s : ℕ} (x : Own n k t s) (wor
     inside q m =
         lt-of-lt-of-le (claim-inside g t (x .working .filled) s (x .belongs .used) room word i mask e q m) (home-most g t s)
 
-    -- An entry of the claim names a slot in the mask.
-    names-slot : (y q j : ℕ) → q < mostSlots → j < length entries → getD entries j 0 ≡ entryOf y q → (y ≡ s) × InMask i mask q
-    names-slot y q j l h z =
-        let r = claimed-entry s i mask j h in
-        let d = entry-same y s l (inside (r .slot) (r .inMask)) (sym z ∙ r .is) in
-        (d .0, subst (InMask i mask) (sym (d .1)) (r .inMask))
+    -- The entries of the claim are those of the slots in the mask.
+    names-slot : (y q : ℕ) → q < mostSlots → EntriesOf entries y q → SlotsOf s (InMask i mask) y q
+    names-slot y q l h =
+        let r = claimed-entry s i mask (h .place) (h .below) in
+        let d = entry-same y s l (inside (r .slot) (r .inMask)) (sym (h .is) ∙ r .is) in
+        record { span = d .0; slot = subst (InMask i mask) (sym (d .1)) (r .inMask) }
+
+    has-entry : (y q : ℕ) → SlotsOf s (InMask i mask) y q → EntriesOf entries y q
+    has-entry y q n = subst (λ (z : ℕ). EntriesOf entries z q) (sym (n .span)) (claimed-has s i mask q (n .slot))
 
     some-settled : (y q : ℕ) → y < t .used → q < mostSlots → Settled (stateOf g t y q) (stateOf g (pushEntries entries after k) y q)
     some-settled y q l m = go (ℕ-discrete y s) (in-mask-or i mask q)
       where
-        put : AllBecome g after (pushEntries entries after k) entries Cached
+        put : Becomes g after (pushEntries entries after k) (EntriesOf entries) Cached
         put = entries-cached (claim-claimable x word .working) can
 
-        took : Becomes g t after s (InMask i mask) Out
+        took : Becomes g t after (SlotsOf s (InMask i mask)) Out
         took = claim-states g t (x .working .filled) s (x .belongs .used) room word i mask e
 
-        other : (y ≡ s → InMask i mask q → ⊥) → Settled (stateOf g t y q) (stateOf g (pushEntries entries after k) y q)
-        other n =
-            settled-same
-            (put .others y q (rw (only .used) l) m (λ j h z. let r = names-slot y q j m h z in n (r .0) (r .1))
-            ∙ took .others y q m n)
+        still : y < after .used
+        still = rw (only .used) l
 
-        now : InMask i mask q → stateOf g (pushEntries entries after k) s q ≡ Cached
-        now n =
-            let r = claimed-stands s i mask q n in
-            let z = put .these (r .place) (r .below) in
-            rw (r .is, entry-span s m, entry-slot s m) at z
+        free : SlotsOf s (InMask i mask) y q → stateOf g t y q ≡ Free
+        free n =
+            ap (λ (z : ℕ). stateOf g t z q) (n .span)
+            ∙ claim-were-free g t (x .working .filled) s (x .belongs .used) room word i mask e q m (n .slot)
+
+        other : (SlotsOf s (InMask i mask) y q → ⊥) → Settled (stateOf g t y q) (stateOf g (pushEntries entries after k) y q)
+        other n = settled-same (put .others y q still m (λ h. n (names-slot y q m h)) ∙ took .others y q l m n)
 
         go : Dec (y ≡ s) → Dec (InMask i mask q) → Settled (stateOf g t y q) (stateOf g (pushEntries entries after k) y q)
         go (yes d) (yes n) =
-            subst (λ (z : ℕ). Settled (stateOf g t z q) (stateOf g (pushEntries entries after k) z q)) (sym d)
-            (settled-cached (claim-were-free g t (x .working .filled) s (x .belongs .used) room word i mask e q m n) (now n))
-        go (yes d) (no n) = other (λ a b. n b)
-        go (no d) n = other (λ a b. d a)
+            let this : SlotsOf s (InMask i mask) y q = record { span = d; slot = n } in
+            settled-cached (free this) (put .named y q still m (has-entry y q this))
+        go (yes d) (no n) = other (λ a. n (a .slot))
+        go (no d) n = other (λ a. d (a .span))
 
     some-fills : Fills g t (pushEntries entries after k)
     some-fills =
@@ -145,18 +149,21 @@ module _ {n : ℕ} {k : ClassHeap} {t : Tables} {s : ℕ} (x : Own n k t s) (wor
   taken-fills (Taken i mask) e =
       fills-then (some-fills i mask e) (quiet-fills (if-full-quiet (pushEntries (claimedEntries s i mask) after k) k s) g)
 
+  -- A claim of a span of the class and heap.
   pub claim-from-fills : Fills (x .working .shape) t (claimFrom t k s word)
   unfolding claimFrom
   claim-from-fills = taken-fills (claimOf t k s word .answer) refl
 
 -- ---- a claim of the front, and a refill
 
+-- A claim of the front partial span, its pending frees folded in first.
 pub claim-front-fills : {n : ℕ} {k : ClassHeap} {t : Tables} (x : Fronted n k t) (word : ℕ) → Fills (x .own .working .shape) t (claimFront t k word)
 unfolding claimFront
 claim-front-fills {n} {k} {t} x word =
     let w = x .own .working in
     fills-then (folded-fills (w .shape) t (w .filled) (headAt t k partialList - 1) (x .own .belongs .used)) (claim-from-fills (fold-own (x .own)) word)
 
+-- Every turn, and so the refill.
 pub refill-fills :
     (n : ℕ) {limit : ℕ} {k : ClassHeap} {t : Tables} (w : Working limit k t) (ws : List ℕ) (i : ℕ) →
     Fronts n limit t k ws i →

@@ -1,8 +1,8 @@
 -- The steps of a refill take no block out and bring none back, and what is cached stays cached: they make pending blocks free, new ones free, and free
 -- ones cached. Assumes nothing.
-use mathlib.Core.Path.{_≡_, refl, sym, subst, _∙_}
-use mathlib.Core.Bool.{Bool, cond}
-use Prim.Native.Nat.{ℕ, zero, suc, _+_, _-_, _<_, _≤_}
+use mathlib.Core.Path.{_≡_, refl, sym, ap, _∙_}
+use mathlib.Core.Bool.{cond}
+use Prim.Native.Nat.{ℕ, zero, suc, _-_, _<_, _≤_}
 use native.Mathlib.Nat.{lt-of-lt-of-le}
 use native.Mathlib.Decide.{ℕ-discrete, decLt}
 use native.Mathlib.Omega.{arith}
@@ -13,7 +13,6 @@ use Rattle.size_classes.specs.Slots.{mostSlots}
 use Rattle.tables.specs.declared.ClassHeap.{ClassHeap}
 use Rattle.tables.specs.Shape.{Shape, classes, classHeap}
 use Rattle.tables.specs.Cells.{Tables, classField, ownerField, nextAt, headAt, partialList, fullList}
-use Rattle.linked_list.specs.Lists.{push}
 use Rattle.linked_list.specs.Quiet.{Quiet}
 use Rattle.linked_list.proofs.QuietLaws.{push-quiet}
 use Rattle.span.specs.Span.{hasPending, reclaimPending, folded, newSpan}
@@ -23,10 +22,10 @@ use Rattle.span.specs.State.{stateOf}
 use Rattle.class_heap.specs.Steps.{refile, reclaimOne, reclaim, reactivate, create, noPartial, noneEmpty, supply, replenish}
 use Rattle.sound.specs.Sound.{homeOf}
 use Rattle.sound.specs.Filled.{Filled}
-use Rattle.filled_magazines.proofs.StateLaws.{free-no-pending, free-no-out, pending-no-cached, pending-no-out, cached-no-out}
+use Rattle.sound.specs.States.{Becomes, SlotsOf}
+use Rattle.sound.proofs.StateTests.{free-no-pending, free-no-out, pending-no-cached, pending-no-out, cached-no-out}
 use Rattle.filled_magazines.proofs.ListSteps.{quiet-state}
 use Rattle.filled_spans.proofs.SpanValues.{home-most}
-use Rattle.filled_spans.proofs.BlockStates.{Becomes}
 use Rattle.filled_spans.proofs.FilledKept.{OnlyOccupancy}
 use Rattle.filled_spans.proofs.ReclaimKept.{WasPending, reclaim-only, reclaim-states, folded-only, folded-states}
 use Rattle.filled_spans.proofs.NewSpanKept.{new-home, new-only, new-record, new-states}
@@ -35,8 +34,8 @@ use Rattle.placing.proofs.PlacingQuiet.{refile-quiet, reactivate-quiet}
 use Rattle.placing.proofs.PlacingKept.{working-links}
 use Rattle.reclaiming.proofs.ReclaimingLaws.{reclaim-one-working, reclaim-one-used}
 use Rattle.replenishing.proofs.ReplenishingLaws.{reclaimed-working}
-use Rattle.outs.specs.Outs.{IsOut, SameSpans, SameOuts}
-use Rattle.outs.proofs.OutsLaws.{spans-same, spans-then, quiet-spans, occupancy-spans, spans-home, out-after, out-before, out-within}
+use Rattle.outs.specs.Outs.{SameSpans, SameOuts}
+use Rattle.outs.proofs.OutsLaws.{spans-same, spans-then, quiet-spans, occupancy-spans, out-after, out-before, out-within}
 
 -- ---- one block
 
@@ -46,10 +45,11 @@ pub record Settled (a b : BlockState) : Type 0 where
   pub none : b ≡ Out → a ≡ Out
   pub cached : a ≡ Cached → b ≡ Cached
 
--- The same state; pending and then free; free and then cached.
+-- The same state.
 pub settled-same : {a b : BlockState} → b ≡ a → Settled a b
 settled-same e = record { kept = λ h. e ∙ h; none = λ h. sym e ∙ h; cached = λ h. e ∙ h }
 
+-- Pending, and then free.
 pub settled-free : {a b : BlockState} → a ≡ Pending → b ≡ Free → Settled a b
 settled-free p f =
     record {
@@ -58,6 +58,7 @@ settled-free p f =
       cached = λ h. absurd (pending-no-cached (sym p ∙ h));
     }
 
+-- Free, and then cached.
 pub settled-cached : {a b : BlockState} → a ≡ Free → b ≡ Cached → Settled a b
 settled-cached f c =
     record {
@@ -92,11 +93,12 @@ fills-outs {g} {t} {u} a =
           ];
     }
 
--- Nothing changed, and one such step after another.
+-- Nothing changed.
 pub fills-same : (g : Shape) (t : Tables) → Fills g t t
 fills-same g t =
     record { spans = spans-same t; old = λ s q l m. settled-same refl; new = λ s q l m h e. omega (arith, l, m) }
 
+-- One such step after another.
 pub fills-then : {g : Shape} {t u v : Tables} → Fills g t u → Fills g u v → Fills g t v
 fills-then {g} {t} {u} {v} a b =
     record {
@@ -125,6 +127,7 @@ fills-by a n f = record { spans = a; old = f; new = λ s q l m h e. omega (arith
 pub quiet-fills : {t u : Tables} → Quiet t u → (g : Shape) → Fills g t u
 quiet-fills q g = fills-by (quiet-spans q) (q .used) (λ x y l m. settled-same (quiet-state q g x y))
 
+-- So it leaves the same blocks out.
 pub quiet-outs : {t u : Tables} → Quiet t u → (g : Shape) → SameOuts g t u
 quiet-outs q g = fills-outs (quiet-fills q g)
 
@@ -137,24 +140,28 @@ pending-or Cached = no (λ e. pending-no-cached (sym e))
 pending-or Pending = yes refl
 pending-or Out = no (λ e. pending-no-out (sym e))
 
+-- A step of one span's occupancy that makes its pending blocks free.
 pendings-fill :
-    (g : Shape) (t u : Tables) (a : ℕ) → OnlyOccupancy t u a → Becomes g t u a (WasPending g t a) Free → Fills g t u
+    (g : Shape) (t u : Tables) (a : ℕ) → OnlyOccupancy t u a → Becomes g t u (SlotsOf a (WasPending g t a)) Free → Fills g t u
 pendings-fill g t u a only z =
-    fills-by (occupancy-spans only) (only .used) (λ x y l m. go x y m (ℕ-discrete x a) (pending-or (stateOf g t a y)))
+    fills-by (occupancy-spans only) (only .used) (λ x y l m. go x y l m (ℕ-discrete x a) (pending-or (stateOf g t a y)))
   where
-    go : (x y : ℕ) → y < mostSlots → Dec (x ≡ a) → Dec (stateOf g t a y ≡ Pending) → Settled (stateOf g t x y) (stateOf g u x y)
-    go x y m (yes e) (yes p) = subst (λ (w : ℕ). Settled (stateOf g t w y) (stateOf g u w y)) (sym e) (settled-free p (z .named y m p))
-    go x y m (yes e) (no n) = settled-same (z .others x y m (λ d p. n p))
-    go x y m (no n) d = settled-same (z .others x y m (λ e p. n e))
+    go : (x y : ℕ) → x < t .used → y < mostSlots → Dec (x ≡ a) → Dec (stateOf g t a y ≡ Pending) → Settled (stateOf g t x y) (stateOf g u x y)
+    go x y l m (yes e) (yes p) =
+        settled-free (ap (λ (w : ℕ). stateOf g t w y) e ∙ p) (z .named x y l m (record { span = e; slot = p }))
+    go x y l m (yes e) (no n) = settled-same (z .others x y l m (λ d. n (d .slot)))
+    go x y l m (no n) d = settled-same (z .others x y l m (λ d. n (d .span)))
 
 module _ (g : Shape) (t : Tables) (f : Filled g t) (s : ℕ) (l : s < t .used) where
+  -- The fold of a span's pending frees,
   pub pending-fills : Fills g t (reclaimPending t s)
   pending-fills = pendings-fill g t (reclaimPending t s) s (reclaim-only g t f s l) (reclaim-states g t f s l)
 
+  -- and the fold where there are any.
   pub folded-fills : Fills g t (folded t s)
   folded-fills = pendings-fill g t (folded t s) s (folded-only g t f s l) (folded-states g t f s l)
 
--- One full span, and all of them from a link in range on.
+-- One full span, folded and placed anew.
 pub reclaim-one-fills : {n : ℕ} {k : ClassHeap} {t : Tables} (w : Working n k t) {s : ℕ} → s < t .used → Fills (w .shape) t (reclaimOne t k s)
 unfolding reclaimOne
 reclaim-one-fills {n} {k} {t} w {s} l =
@@ -163,6 +170,7 @@ reclaim-one-fills {n} {k} {t} w {s} l =
     (λ e. fills-then (pending-fills (w .shape) t (w .filled) s l) (quiet-fills (refile-quiet u k fullList (omega arith) s) (w .shape)))
     (λ e. fills-same (w .shape) t)
 
+-- The walk over the full spans, from a link in range on.
 pub reclaim-fills :
     (i : ℕ) {n : ℕ} {k : ClassHeap} {t : Tables} (x : ℕ) (w : Working n k t) → x ≤ t .used → Fills (w .shape) t (reclaim i t k x)
 unfolding reclaim
@@ -172,11 +180,12 @@ reclaim-fills (suc i) {n} {k} {t} x w l =
     (λ e.
     let h : x - 1 < t .used = omega (arith, eqb-false x 0 e) in
     fills-then (reclaim-one-fills w h)
-    (reclaim-fills i (nextAt t (x - 1)) (reclaim-one-working w h) (rw (reclaim-one-used w h) (w .filled .next (x - 1) h))))
+    (reclaim-fills i (nextAt t (x - 1)) (reclaim-one-working w h) (rw (reclaim-one-used t k (x - 1)) (w .filled .next (x - 1) h))))
 
 -- ---- a new span's blocks are free
 
 module _ (g : Shape) (t : Tables) (f : Filled g t) (unused : t .used < g .spans) {h c : ℕ} (hh : h < g .heaps) (hc : c < classes g) where
+  -- The next unused span, written new.
   pub new-fills : Fills g t (newSpan t (classHeap g h c))
   new-fills =
       let k = classHeap g h c in
@@ -199,6 +208,7 @@ module _ (g : Shape) (t : Tables) (f : Filled g t) (unused : t .used < g .spans)
       }
 
 module _ {limit : ℕ} {k : ClassHeap} {t : Tables} (w : Working limit k t) where
+  -- The same, to the front of partial.
   pub create-fills : t .used < limit → Fills (w .shape) t (create t k)
   unfolding create
   create-fills l =
@@ -206,6 +216,7 @@ module _ {limit : ℕ} {k : ClassHeap} {t : Tables} (w : Working limit k t) wher
       (rw (w .named) (new-fills (w .shape) t (w .filled) (omega (arith, l, w .limited)) (w .inHeaps) (w .inClasses)))
       (quiet-fills (push-quiet (newSpan t k) k partialList (omega arith) (t .used)) (w .shape))
 
+  -- A partial span from the reserve, the empty list or the unused ones.
   pub supply-fills : Fills (w .shape) t (supply limit t k)
   unfolding supply
   supply-fills =
@@ -218,8 +229,9 @@ module _ {limit : ℕ} {k : ClassHeap} {t : Tables} (w : Working limit k t) wher
       (λ d. quiet-fills (reactivate-quiet t k) (w .shape)))
       (λ e. fills-same (w .shape) t)
 
--- ---- and a partial span, if one can be had, comes of these
+-- ---- both
 
+-- A partial span, if one can be had.
 pub replenish-fills : {limit : ℕ} {k : ClassHeap} {t : Tables} (w : Working limit k t) → Fills (w .shape) t (replenish limit t k)
 unfolding replenish
 replenish-fills {limit} {k} {t} w =

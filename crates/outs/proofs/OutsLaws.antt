@@ -16,17 +16,19 @@ use Rattle.span.specs.declared.BlockState.{BlockState}
 use Rattle.span.specs.declared.BlockState.the-variants.{Out}
 use Rattle.span.specs.State.{stateOf}
 use Rattle.sound.specs.Sound.{homeOf, Belongs}
-use Rattle.filled_magazines.proofs.Becomes.{Becomes}
+use Rattle.sound.specs.States.{Becomes, Block}
+use Rattle.sound.proofs.StatesLaws.{becomes-this}
 use Rattle.filled_spans.proofs.SpanValues.{home-most}
 use Rattle.filled_spans.proofs.FilledKept.{OnlyOccupancy}
 use Rattle.outs.specs.Outs.{IsOut, SameSpans, SameOuts, ComesOut, GoesBack}
 
 -- ---- the spans
 
--- Nothing changed, and one step after another.
+-- Nothing changed.
 pub spans-same : (t : Tables) → SameSpans t t
 spans-same t = record { used = omega arith; class = λ s l. refl; owner = λ s l. refl }
 
+-- One step after another.
 pub spans-then : {t u v : Tables} → SameSpans t u → SameSpans u v → SameSpans t v
 spans-then a b =
     record {
@@ -61,6 +63,7 @@ module _ {t u : Tables} (a : SameSpans t u) where
   pub spans-home : (g : Shape) (s : ℕ) → s < t .used → homeOf g u s ≡ homeOf g t s
   spans-home g s l = ap₂ (classHeap g) (a .owner s l) (a .class s l)
 
+  -- A span of a class and heap is of it still.
   pub spans-belongs : {k : ClassHeap} {s : ℕ} → Belongs t k s → Belongs u k s
   spans-belongs {k} {s} b =
       record {
@@ -69,11 +72,12 @@ module _ {t u : Tables} (a : SameSpans t u) where
         owner = a .owner s (b .used) ∙ b .owner;
       }
 
-  -- A block that is out in both, if its state says so.
+  -- A block that was out is out, if its state says so,
   pub out-after : {g : Shape} {s q : ℕ} → IsOut g t s q → stateOf g u s q ≡ Out → IsOut g u s q
   out-after {g} {s} {q} o e =
       record { used = lt-of-lt-of-le (o .used) (a .used); slot = rw (spans-home g s (o .used)) (o .slot); out = e }
 
+  -- and the other way, for a span that was used.
   pub out-before : {g : Shape} {s q : ℕ} → IsOut g u s q → s < t .used → stateOf g t s q ≡ Out → IsOut g t s q
   out-before {g} {s} {q} o l e = record { used = l; slot = rw (← spans-home g s l) (o .slot); out = e }
 
@@ -83,10 +87,12 @@ out-within {g} {t} {s} o = lt-of-lt-of-le (o .slot) (home-most g t s)
 
 -- ---- steps that change none
 
+-- Nothing changed.
 pub same-outs : (g : Shape) (t : Tables) → SameOuts g t t
 same-outs g t = record { spans = spans-same t; kept = λ s q o. o; none = λ s q o. o }
 
 module _ {g : Shape} {t u v : Tables} where
+  -- One step after another.
   pub same-outs-then : SameOuts g t u → SameOuts g u v → SameOuts g t v
   same-outs-then a b =
       record {
@@ -98,6 +104,7 @@ module _ {g : Shape} {t u v : Tables} where
   -- ---- before or after a step of one block
 
   module _ {s q : ℕ} where
+    -- Before a block comes out,
     pub same-comes : SameOuts g t u → ComesOut g u v s q → ComesOut g t v s q
     same-comes a b =
         record {
@@ -108,6 +115,7 @@ module _ {g : Shape} {t u v : Tables} where
           none = λ x y o n. a .none x y (b .none x y o n);
         }
 
+    -- after it,
     pub comes-same : ComesOut g t u s q → SameOuts g u v → ComesOut g t v s q
     comes-same a b =
         record {
@@ -118,6 +126,7 @@ module _ {g : Shape} {t u v : Tables} where
           none = λ x y o n. a .none x y (b .none x y o) n;
         }
 
+    -- before a block goes back,
     pub same-goes : SameOuts g t u → GoesBack g u v s q → GoesBack g t v s q
     same-goes a b =
         record {
@@ -128,6 +137,7 @@ module _ {g : Shape} {t u v : Tables} where
           none = λ x y o. a .none x y (b .none x y o);
         }
 
+    -- and after it.
     pub goes-same : GoesBack g t u s q → SameOuts g u v → GoesBack g t v s q
     goes-same a b =
         record {
@@ -163,23 +173,23 @@ this-or {s} {q} P x y this other =
 module _ {g : Shape} {t u : Tables} (a : SameSpans t u) (n : u .used ≡ t .used) {s q : ℕ} where
   -- the others keep their states, so they are out as before
   others-kept :
-      {b : BlockState} → Becomes g t u s q b → (x y : ℕ) → IsOut g t x y → (x ≡ s → y ≡ q → ⊥) → IsOut g u x y
-  others-kept z x y o d = out-after a o (z .others x y (o .used) (out-within o) d ∙ o .out)
+      {b : BlockState} → Becomes g t u (Block s q) b → (x y : ℕ) → IsOut g t x y → (x ≡ s → y ≡ q → ⊥) → IsOut g u x y
+  others-kept z x y o d = out-after a o (z .others x y (o .used) (out-within o) (λ e. d (e .span) (e .slot)) ∙ o .out)
 
   others-none :
-      {b : BlockState} → Becomes g t u s q b → (x y : ℕ) → IsOut g u x y → (x ≡ s → y ≡ q → ⊥) → IsOut g t x y
+      {b : BlockState} → Becomes g t u (Block s q) b → (x y : ℕ) → IsOut g u x y → (x ≡ s → y ≡ q → ⊥) → IsOut g t x y
   others-none z x y o d =
       let l : x < t .used = rw (← n) (o .used) in
-      out-before a o l (sym (z .others x y l (out-within o) d) ∙ o .out)
+      out-before a o l (sym (z .others x y l (out-within o) (λ e. d (e .span) (e .slot))) ∙ o .out)
 
   -- A block that was not out, and is, came out.
   pub becomes-comes :
-      Becomes g t u s q Out → s < t .used → q < homeOf g t s .slots → (stateOf g t s q ≡ Out → ⊥) → ComesOut g t u s q
+      Becomes g t u (Block s q) Out → s < t .used → q < homeOf g t s .slots → (stateOf g t s q ≡ Out → ⊥) → ComesOut g t u s q
   becomes-comes z l m no-out =
       record {
         spans = a;
         was = λ o. no-out (o .out);
-        now = record { used = rw n l; slot = rw (spans-home a g s l) m; out = z .this };
+        now = record { used = rw n l; slot = rw (spans-home a g s l) m; out = becomes-this z l (lt-of-lt-of-le m (home-most g t s)) };
         kept =
             λ x y o.
             this-or (IsOut g u x y) x y (λ e d. absurd (no-out (sym (ap₂ (stateOf g t) e d) ∙ o .out))) (others-kept z x y o);
@@ -187,15 +197,16 @@ module _ {g : Shape} {t u : Tables} (a : SameSpans t u) (n : u .used ≡ t .used
       }
 
   -- A block that was out, and is not, went back.
-  pub becomes-goes : {b : BlockState} → Becomes g t u s q b → (b ≡ Out → ⊥) → IsOut g t s q → GoesBack g t u s q
+  pub becomes-goes : {b : BlockState} → Becomes g t u (Block s q) b → (b ≡ Out → ⊥) → IsOut g t s q → GoesBack g t u s q
   becomes-goes z no-out was =
+      let this = becomes-this z (was .used) (out-within was) in
       record {
         spans = a;
         was = was;
-        now = λ o. no-out (sym (z .this) ∙ o .out);
+        now = λ o. no-out (sym this ∙ o .out);
         kept = others-kept z;
         none =
             λ x y o.
-            this-or (IsOut g t x y) x y (λ e d. absurd (no-out (sym (z .this) ∙ sym (ap₂ (stateOf g u) e d) ∙ o .out)))
+            this-or (IsOut g t x y) x y (λ e d. absurd (no-out (sym this ∙ sym (ap₂ (stateOf g u) e d) ∙ o .out)))
             (others-none z x y o);
       }

@@ -1,6 +1,6 @@
 -- The steps that place a span keep links in range, and a working table working. Assumes nothing.
 use mathlib.Core.Path.{_≡_}
-use mathlib.Core.Bool.{Bool, true, false, cond}
+use mathlib.Core.Bool.{cond}
 use Prim.Native.Nat.{ℕ, _+_, _-_, _<_, _≤_}
 use native.Mathlib.Omega.{arith}
 use borrow.Author.Tests.{eqb-true, eqb-false}
@@ -9,13 +9,14 @@ use Rattle.laws.proofs.CondLaws.{cond-both}
 use Rattle.tables.specs.declared.ClassHeap.{ClassHeap}
 use Rattle.tables.specs.Shape.{Shape, classes, classHeap}
 use Rattle.tables.specs.Cells.{Tables, headAt, setHead, partialList, fullList, emptyList, reserve}
+use Rattle.magazine.specs.Room.{Room}
 use Rattle.linked_list.specs.Lists.{push, remove, pop}
 use Rattle.linked_list.specs.Reach.{Links}
 use Rattle.linked_list.proofs.QuietLaws.{remove-quiet, pop-quiet}
 use Rattle.span.specs.Span.{isFull, isEmpty}
 use Rattle.class_heap.specs.Steps.{demote, releaseEmpty, place, refile, reactivate}
 use Rattle.sound.specs.Filled.{Filled}
-use Rattle.filled_magazines.proofs.FilledFacts.{filled-links}
+use Rattle.filled_magazines.proofs.FilledFacts.{filled-room, filled-links}
 use Rattle.filled_magazines.proofs.ListSteps.{push-filled, remove-filled, pop-filled, front-filled}
 use Rattle.placing.specs.Working.{Working}
 
@@ -74,6 +75,10 @@ module _ {n : ℕ} {k : ClassHeap} {t : Tables} (w : Working n k t) where
         few = w .few;
         filled = o;
       }
+
+  -- The magazine's count and entries are there.
+  pub working-room : Room (t .entries) (t .heads) k
+  working-room = rw (w .named) (filled-room (w .filled) (w .inHeaps) (w .inClasses))
 
   -- The links of a working table are in range.
   pub working-links : Links (t .used) (t .spans) (t .heads) (k .row)

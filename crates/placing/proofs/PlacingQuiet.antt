@@ -1,6 +1,6 @@
 -- The steps that place a span, and those that take one to the partial list or from it, change links and heads of lists alone, whatever the table holds.
 -- Assumes nothing.
-use mathlib.Core.Bool.{Bool, cond}
+use mathlib.Core.Bool.{cond}
 use Prim.Native.Nat.{ℕ, _+_, _-_, _≤_}
 use native.Mathlib.Omega.{arith}
 use lib.Dec.{eqb}

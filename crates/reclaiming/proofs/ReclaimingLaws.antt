@@ -1,6 +1,6 @@
 -- The walk over the full spans, a span at a time; and what it keeps. Assumes nothing.
-use mathlib.Core.Path.{_≡_, refl, sym, ap, _∙_}
-use mathlib.Core.Bool.{Bool, true, false, cond}
+use mathlib.Core.Path.{_≡_, refl, sym, _∙_}
+use mathlib.Core.Bool.{true, false}
 use mathlib.Core.List.{List}
 use Prim.Native.Nat.{ℕ, zero, suc, _-_, _<_, _≤_}
 use native.Mathlib.Numerals.{sub-one}
@@ -10,9 +10,10 @@ use lib.ListN.{length, getD}
 use lib.Dec.{eqb}
 use Rattle.laws.proofs.CondLaws.{cond-both}
 use Rattle.tables.specs.declared.ClassHeap.{ClassHeap}
-use Rattle.tables.specs.Cells.{Tables, tables, spanCell, nextField, nextAt, headCell, headAt, fullList}
+use Rattle.tables.specs.Cells.{Tables, tables, spanCell, nextField, nextAt, headCell, fullList, countAt}
+use Rattle.linked_list.proofs.QuietLaws.{quiet-count}
 use Rattle.span.specs.Room.{SpanCells, Foldable}
-use Rattle.span.specs.Span.{hasPending, reclaimPending}
+use Rattle.span.specs.Span.{stored, hasPending, reclaimPending}
 use Rattle.class_heap.specs.Steps.{refile, reclaimOne, reclaim}
 use Rattle.sound.specs.Sound.{homeOf}
 use Rattle.sound.specs.Filled.{Filled}
@@ -22,7 +23,40 @@ use Rattle.placing.specs.Working.{Working}
 use Rattle.placing.proofs.PlacingQuiet.{refile-quiet}
 use Rattle.placing.proofs.PlacingKept.{working-on, working-links, refile-working}
 
--- What a working table gives a used span of it.
+-- ---- what it leaves as it was, whatever the table holds
+
+module _ (t : Tables) (k : ClassHeap) (s : ℕ) where
+  -- The number of spans used.
+  pub reclaim-one-used : reclaimOne t k s .used ≡ t .used
+  unfolding reclaimOne reclaimPending stored
+  reclaim-one-used =
+      cond-both (λ u. u .used ≡ t .used) (hasPending t s) (refile (reclaimPending t s) k fullList s) t
+      (λ e. refile-quiet (reclaimPending t s) k fullList (omega arith) s .used) (λ e. refl)
+
+  -- The count of every magazine.
+  pub reclaim-one-count : (j : ClassHeap) → countAt (reclaimOne t k s) j ≡ countAt t j
+  unfolding reclaimOne reclaimPending stored
+  reclaim-one-count j =
+      cond-both (λ u. countAt u j ≡ countAt t j) (hasPending t s) (refile (reclaimPending t s) k fullList s) t
+      (λ e. quiet-count (refile-quiet (reclaimPending t s) k fullList (omega arith) s) j) (λ e. refl)
+
+-- The same of the walk: the number of spans used,
+pub reclaim-used : (n : ℕ) (t : Tables) (k : ClassHeap) (x : ℕ) → reclaim n t k x .used ≡ t .used
+unfolding reclaim
+reclaim-used zero t k x = refl
+reclaim-used (suc n) t k x =
+    cond-both (λ u. u .used ≡ t .used) (eqb x 0) t (reclaim n (reclaimOne t k (x - 1)) k (nextAt t (x - 1))) (λ e. refl)
+    (λ e. reclaim-used n (reclaimOne t k (x - 1)) k (nextAt t (x - 1)) ∙ reclaim-one-used t k (x - 1))
+
+-- and the count of every magazine.
+pub reclaim-count : (n : ℕ) (t : Tables) (k : ClassHeap) (x : ℕ) (j : ClassHeap) → countAt (reclaim n t k x) j ≡ countAt t j
+unfolding reclaim
+reclaim-count zero t k x j = refl
+reclaim-count (suc n) t k x j =
+    cond-both (λ u. countAt u j ≡ countAt t j) (eqb x 0) t (reclaim n (reclaimOne t k (x - 1)) k (nextAt t (x - 1))) (λ e. refl)
+    (λ e. reclaim-count n (reclaimOne t k (x - 1)) k (nextAt t (x - 1)) j ∙ reclaim-one-count t k (x - 1) j)
+
+-- ---- what a working table gives a used span of it
 module _ {n : ℕ} {k : ClassHeap} {t : Tables} (w : Working n k t) {s : ℕ} (l : s < t .used) where
   pub working-cells : SpanCells (t .bits) (t .spans) s
   working-cells = filled-cells (w .shape) t (w .filled) s l
@@ -42,15 +76,6 @@ module _ {n : ℕ} {k : ClassHeap} {t : Tables} (w : Working n k t) {s : ℕ} (l
 
   abbrev pub reclaim-one-working : Working n k (reclaimOne t k s)
   reclaim-one-working = working-on w reclaim-one-filled
-
-  pub pending-used : reclaimPending t s .used ≡ t .used
-  pending-used = reclaim-only (w .shape) t (w .filled) s l .used
-
-  pub reclaim-one-used : reclaimOne t k s .used ≡ t .used
-  unfolding reclaimOne
-  reclaim-one-used =
-      cond-both (λ u. u .used ≡ t .used) (hasPending t s) (refile (reclaimPending t s) k fullList s) t
-      (λ e. refile-quiet (reclaimPending t s) k fullList (omega arith) s .used ∙ pending-used) (λ e. refl)
 
 -- ---- one span, by its test
 
@@ -91,7 +116,7 @@ reclaim-filled (suc i) {n} {k} {t} x w l =
     cond-both (Filled (w .shape)) (eqb x 0) t (reclaim i (reclaimOne t k (x - 1)) k (nextAt t (x - 1))) (λ e. w .filled)
     (λ e.
     let h : x - 1 < t .used = omega (arith, eqb-false x 0 e) in
-    reclaim-filled i (nextAt t (x - 1)) (reclaim-one-working w h) (rw (reclaim-one-used w h) (w .filled .next (x - 1) h)))
+    reclaim-filled i (nextAt t (x - 1)) (reclaim-one-working w h) (rw (reclaim-one-used t k (x - 1)) (w .filled .next (x - 1) h)))
 
 abbrev pub reclaim-working :
     (i : ℕ) {n : ℕ} {k : ClassHeap} {t : Tables} (x : ℕ) → Working n k t → x ≤ t .used → Working n k (reclaim i t k x)

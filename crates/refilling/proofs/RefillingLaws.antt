@@ -1,17 +1,17 @@
 -- The refill, a turn at a time. Assumes nothing.
 use mathlib.Core.Path.{_≡_, refl, sym, ap, _∙_}
-use mathlib.Core.Bool.{Bool, true, false, cond}
+use mathlib.Core.Bool.{cond}
 use mathlib.Core.List.{List}
 use Prim.Native.Nat.{ℕ, zero, suc, _+_, _-_, _<_, _≤_}
 use native.Mathlib.Numerals.{sub-one}
 use native.Mathlib.Omega.{arith}
 use borrow.Author.Tests.{eq-eqb, ne-eqb, eqb-false, lt-ltb, le-ltb, ltb-true}
 use lib.ListN.{length, getD}
-use lib.Dec.{eqb, ltb}
+use lib.Dec.{ltb}
 use Rattle.laws.proofs.CondLaws.{cond-both}
 use Rattle.magazine_layout.specs.Layout.{mostCapacity}
 use Rattle.tables.specs.declared.ClassHeap.{ClassHeap}
-use Rattle.tables.specs.Cells.{Tables, tables, headAt, partialList, countAt}
+use Rattle.tables.specs.Cells.{Tables, headAt, partialList, countAt}
 use Rattle.class_heap.specs.Steps.{noPartial, replenish, claimFront, refill, refilled, Refilled}
 use Rattle.sound.specs.Sound.{Belongs}
 use Rattle.sound.specs.Filled.{Filled}
@@ -19,7 +19,7 @@ use Rattle.filled_magazines.proofs.FilledFacts.{capacity-within}
 use Rattle.placing.specs.Working.{Working}
 use Rattle.placing.proofs.PlacingKept.{working-on, working-as}
 use Rattle.replenishing.proofs.ReplenishingLaws.{replenish-working}
-use Rattle.claiming.specs.Claimable.{Own, Fronted}
+use Rattle.claiming.specs.Claimable.{Fronted}
 use Rattle.claiming.proofs.ClaimingLaws.{claim-front-working}
 use Rattle.refilling.specs.Fronts.{Fronts}
 

@@ -1,27 +1,25 @@
 -- The steps to a partial span, a call at a time; and what they keep. Assumes nothing.
-use mathlib.Core.Path.{_≡_, refl, sym, ap, _∙_}
-use mathlib.Core.Bool.{Bool, true, false, true≢false, _&&_, cond}
-use mathlib.Core.List.{List}
+use mathlib.Core.Path.{_≡_, refl, sym, _∙_}
+use mathlib.Core.Bool.{true, false, true≢false, _&&_, cond}
 use Prim.Native.Nat.{ℕ, zero, suc, _+_, _<_, _≤_}
 use native.Mathlib.Omega.{arith}
-use borrow.Author.Tests.{eq-eqb, ne-eqb, eqb-true, eqb-false, lt-ltb, le-ltb, ltb-true}
-use lib.ListN.{getD}
+use borrow.Author.Tests.{eq-eqb, ne-eqb, lt-ltb, le-ltb, ltb-true}
 use lib.Dec.{eqb, ltb}
 use Rattle.laws.proofs.CondLaws.{cond-both}
 use Rattle.tables.specs.declared.ClassHeap.{ClassHeap}
-use Rattle.tables.specs.Shape.{Shape, classes, classHeap}
-use Rattle.tables.specs.Cells.{Tables, tables, headCell, headAt, partialList, fullList, emptyList, reserve}
+use Rattle.tables.specs.Cells.{Tables, headAt, partialList, fullList, emptyList, reserve, countAt}
 use Rattle.linked_list.specs.Lists.{push}
+use Rattle.linked_list.proofs.QuietLaws.{push-quiet, quiet-count}
 use Rattle.span.specs.Room.{SpanCells}
 use Rattle.span.specs.Span.{newSpan}
 use Rattle.class_heap.specs.Steps.{noPartial, noneEmpty, create, reactivate, supply, reclaim, replenish}
 use Rattle.sound.specs.Filled.{Filled}
-use Rattle.filled_magazines.proofs.ListSteps.{push-filled}
 use Rattle.filled_spans.proofs.SpanValues.{next-cells, class-within}
 use Rattle.filled_spans.proofs.NewSpanKept.{new-kept}
 use Rattle.placing.specs.Working.{Working}
+use Rattle.placing.proofs.PlacingQuiet.{reactivate-quiet}
 use Rattle.placing.proofs.PlacingKept.{working-on, working-links, push-working, reactivate-working}
-use Rattle.reclaiming.proofs.ReclaimingLaws.{reclaim-working}
+use Rattle.reclaiming.proofs.ReclaimingLaws.{reclaim-count, reclaim-working}
 
 -- ---- a new span
 
@@ -129,3 +127,36 @@ replenish-filled {limit} {k} {t} w =
 
 abbrev pub replenish-working : {limit : ℕ} {k : ClassHeap} {t : Tables} → Working limit k t → Working limit k (replenish limit t k)
 replenish-working w = working-on w (replenish-filled w)
+
+-- ---- counts stay, whatever the table holds, and one span is created at most
+
+module _ (t : Tables) (k : ClassHeap) where
+  -- a new span, pushed, leaves every magazine's count
+  pub create-count : (j : ClassHeap) → countAt (create t k) j ≡ countAt t j
+  unfolding create newSpan
+  create-count j = quiet-count (push-quiet (newSpan t k) k partialList (omega arith) (t .used)) j
+
+  -- and is one span more
+  pub create-used : create t k .used ≡ t .used + 1
+  unfolding create newSpan push
+  create-used = refl
+
+-- a supply leaves every magazine's count
+pub supply-count : (limit : ℕ) (t : Tables) (k j : ClassHeap) → countAt (supply limit t k) j ≡ countAt t j
+unfolding supply
+supply-count limit t k j =
+    let P : Tables → Type 0 = λ u. countAt u j ≡ countAt t j in
+    cond-both P (noPartial t k) (cond (noneEmpty t k) (cond (ltb (t .used) limit) (create t k) t) (reactivate t k)) t
+    (λ e.
+    cond-both P (noneEmpty t k) (cond (ltb (t .used) limit) (create t k) t) (reactivate t k)
+    (λ d. cond-both P (ltb (t .used) limit) (create t k) t (λ l. create-count t k j) (λ l. refl))
+    (λ d. quiet-count (reactivate-quiet t k) j))
+    (λ e. refl)
+
+-- and so does a replenish
+pub replenish-count : (limit : ℕ) (t : Tables) (k j : ClassHeap) → countAt (replenish limit t k) j ≡ countAt t j
+unfolding replenish
+replenish-count limit t k j =
+    let v = reclaim (t .used) t k (headAt t k fullList) in
+    cond-both (λ u. countAt u j ≡ countAt t j) (noPartial t k) (supply limit v k) t
+    (λ e. supply-count limit v k j ∙ reclaim-count (t .used) t k (headAt t k fullList) j) (λ e. refl)

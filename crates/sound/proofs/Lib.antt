@@ -1,2 +1,4 @@
 pub mod Worked
 pub mod SoundLists
+pub mod StateTests
+pub mod StatesLaws

@@ -1,3 +1,4 @@
 pub mod Sound
 pub mod Decided
 pub mod Filled
+pub mod States

@@ -1,6 +1,5 @@
 -- A claim from the front partial span: it takes a slot at least, and leaves every span at home. Assumes nothing.
-use mathlib.Core.Path.{_≡_, refl, sym, ap, subst, _∙_}
-use mathlib.Core.Bool.{Bool, true, false, cond}
+use mathlib.Core.Path.{_≡_, refl, ap, _∙_}
 use mathlib.Core.List.{List}
 use mathlib.Core.Logic.{_⊎_, ⊎-elim}
 use Prim.Native.Nat.{ℕ, _+_, _-_, _*_, _<_, _≤_}
@@ -16,18 +15,16 @@ use Rattle.occupancy.proofs.ClaimLaws.{claim-nothing, claim-took}
 use Rattle.tables.specs.declared.ClassHeap.{ClassHeap}
 use Rattle.tables.specs.Shape.{Shape, classes, classHeap}
 use Rattle.tables.specs.Cells.{Tables, occupiedAt, headCell, headAt, partialList, fullList, counter, countAt, entryOf}
-use Rattle.tables.proofs.CellLaws.{head-same, list-in}
-use Rattle.magazine.specs.Held.{OnlyMagazine}
 use Rattle.magazine.specs.Magazine.{pushEntries}
 use Rattle.magazine.proofs.OtherMagazines.{pushes-only, other-list}
 use Rattle.linked_list.specs.Lists.{push, remove}
 use Rattle.linked_list.proofs.QuietLaws.{push-quiet, remove-quiet, quiet-occupied, quiet-count}
 use Rattle.span.specs.Span.{loaded, stored, isFull, folded, claimedEntries}
-use Rattle.class_heap.specs.Steps.{ifFull, taken, claimOf, claimFrom, claimFront}
-use Rattle.sound.specs.Sound.{homeOf, Belongs}
-use Rattle.sound.specs.Filled.{Filled}
+use Rattle.class_heap.specs.Steps.{ifFull, taken, claimFrom, claimFront}
+use Rattle.sound.specs.Sound.{homeOf}
 use Rattle.filled_magazines.proofs.FilledFacts.{belongs-home, filled-room}
-use Rattle.filled_magazines.proofs.PushesSteps.{Pushable, push-entries-count, push-entries-filled}
+use Rattle.filled_magazines.specs.Pushable.{Pushable}
+use Rattle.filled_magazines.proofs.PushesSteps.{push-entries-count, push-entries-filled}
 use Rattle.filled_spans.proofs.SpanValues.{filled-right}
 use Rattle.filled_spans.proofs.FilledKept.{OnlyOccupancy}
 use Rattle.filled_spans.proofs.ClaimKept.{claimedOf, claim-only, claim-kept, claim-occupied}

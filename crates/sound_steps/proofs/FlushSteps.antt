@@ -1,7 +1,7 @@
 -- Slots given back, a flush, and the steps of one magazine or of one pending bit keep a table whole. Assumes nothing.
-use mathlib.Core.Path.{_≡_, refl, sym, ap, subst, _∙_}
+use mathlib.Core.Path.{_≡_, refl, sym, subst}
 use mathlib.Core.Bool.{cond}
-use Prim.Native.Nat.{ℕ, zero, suc, _+_, _-_, _<_, _≤_}
+use Prim.Native.Nat.{ℕ, zero, suc, _-_, _<_}
 use native.Mathlib.Nat.{lt-of-lt-of-le}
 use native.Mathlib.Omega.{arith}
 use borrow.Author.Tests.{eqb-true, eqb-false, ltb-true}
@@ -18,7 +18,8 @@ use Rattle.span.specs.Span.{isFull, isEmpty, deallocSlot, remoteFree}
 use Rattle.class_heap.specs.Steps.{refile, giveBack, flushOne, flush}
 use Rattle.sound.specs.Sound.{homeOf, Belongs}
 use Rattle.filled_magazines.proofs.FilledFacts.{belongs-home, filled-room}
-use Rattle.filled_magazines.proofs.MagazineSteps.{Loose, push-loose-filled, pop-entry-filled, popped-loose, draw-entry-filled}
+use Rattle.filled_magazines.specs.Pushable.{OutEntry}
+use Rattle.filled_magazines.proofs.MagazineSteps.{push-out-filled, pop-entry-filled, popped-out, draw-entry-filled}
 use Rattle.filled_spans.proofs.SpanValues.{home-most, filled-cells}
 use Rattle.filled_spans.proofs.ReleaseKept.{release-only, release-kept, release-occupied}
 use Rattle.filled_spans.proofs.RemoteFreeKept.{remote-only, remote-kept}
@@ -42,8 +43,8 @@ module _ {g : Shape} {h c : ℕ} (hh : h < g .heaps) (hc : c < classes g) where
 
     -- an entry of a block that is out, on the top
     pub push-entry-whole :
-        {e : ℕ} → Loose g t (classHeap g h c) e → countAt t (classHeap g h c) < classHeap g h c .capacity → Whole g (pushEntry t (classHeap g h c) e)
-    push-entry-whole {e} m l = whole-counted o (push-only t (classHeap g h c) e l) (push-loose-filled (o .near .filled) hh hc m l)
+        {e : ℕ} → OutEntry g t (classHeap g h c) e → countAt t (classHeap g h c) < classHeap g h c .capacity → Whole g (pushEntry t (classHeap g h c) e)
+    push-entry-whole {e} m l = whole-counted o (push-only t (classHeap g h c) e l) (push-out-filled (o .near .filled) hh hc m l)
 
     module _ (some : 0 < countAt t (classHeap g h c)) where
       -- the top entry away
@@ -56,8 +57,9 @@ module _ {g : Shape} {h c : ℕ} (hh : h < g .heaps) (hc : c < classes g) where
           whole-counted o (draw-only t (classHeap g h c) word (filled-room (o .near .filled) hh hc) some)
           (draw-entry-filled (o .near .filled) hh hc some word)
 
-    -- ---- a slot of a block that is out, back to its span
+    -- ---- one span
 
+    -- a slot of a block that is out, back to its span, which is unlinked and placed if it was full or is empty now
     pub give-back-whole :
         (s q : ℕ) → Belongs t (classHeap g h c) s → q < classHeap g h c .slots → stateOf g t s q ≡ Out → Whole g (giveBack t (classHeap g h c) s q)
     unfolding giveBack
@@ -86,7 +88,7 @@ module _ {g : Shape} {h c : ℕ} (hh : h < g .heaps) (hc : c < classes g) where
   unfolding flushOne
   flush-one-whole {t} o some =
       let k = classHeap g h c in
-      let m = popped-loose (o .near .filled) hh hc some in
+      let m = popped-out (o .near .filled) hh hc some in
       give-back-whole (pop-entry-whole o some) (entrySpan (topEntry t k)) (entrySlot (topEntry t k)) (m .belongs) (m .inRange) (m .out)
 
   -- down to low water

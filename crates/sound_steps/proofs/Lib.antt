@@ -3,3 +3,5 @@ pub mod ReplenishSteps
 pub mod ClaimSteps
 pub mod RefillSteps
 pub mod FlushSteps
+pub mod UsedSteps
+pub mod DrySteps

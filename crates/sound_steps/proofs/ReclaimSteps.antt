@@ -1,59 +1,27 @@
 -- The walk over the full spans of a class of a heap keeps a table whole. Assumes nothing.
-use mathlib.Core.Path.{_≡_, refl, sym, ap, subst, _∙_}
-use mathlib.Core.Bool.{Bool, true, false, cond}
-use Prim.Native.Nat.{ℕ, zero, suc, _+_, _-_, _<_, _≤_}
+use mathlib.Core.Path.{_≡_, refl, ap, _∙_}
+use Prim.Native.Nat.{ℕ, zero, suc, _+_, _-_, _<_}
 use native.Mathlib.Omega.{arith}
 use borrow.Author.Tests.{eqb-false}
 use lib.Dec.{eqb}
 use Rattle.laws.proofs.CondLaws.{cond-both}
 use Rattle.tables.specs.declared.ClassHeap.{ClassHeap}
 use Rattle.tables.specs.Shape.{Shape, classes, classHeap}
-use Rattle.tables.specs.Cells.{Tables, classField, ownerField, occupiedAt, nextAt, headCell, headAt, fullList, countAt}
+use Rattle.tables.specs.Cells.{Tables, classField, ownerField, occupiedAt, nextAt, headCell, headAt, fullList}
 use Rattle.linked_list.specs.Named.{RowName, ListName}
-use Rattle.linked_list.proofs.QuietLaws.{quiet-class, quiet-owner, quiet-occupied, quiet-count}
-use Rattle.span.specs.Span.{stored, hasPending, reclaimPending}
+use Rattle.linked_list.proofs.QuietLaws.{quiet-class, quiet-owner, quiet-occupied}
+use Rattle.span.specs.Span.{hasPending, reclaimPending}
 use Rattle.class_heap.specs.Steps.{refile, reclaimOne, reclaim}
 use Rattle.sound.specs.Sound.{Belongs}
 use Rattle.sound.specs.Filled.{Filled}
 use Rattle.filled_spans.proofs.FilledKept.{only-field}
 use Rattle.filled_spans.proofs.ReclaimKept.{reclaim-only, reclaim-kept}
 use Rattle.placing.proofs.PlacingQuiet.{refile-quiet}
+use Rattle.reclaiming.proofs.ReclaimingLaws.{reclaim-one-used}
 use Rattle.homes.specs.Homes.{Whole}
 use Rattle.homes.proofs.HomesFrame.{SameRecord, count-other, loose-recounted}
-use Rattle.homes.proofs.HomesMoved.{class-list, full-home, full-loose, member, front-member}
+use Rattle.homes.proofs.HomesMoved.{class-list, full-home, full-loose, member}
 use Rattle.homes.proofs.HomesPlaced.{refile-kept}
-
--- ---- what it leaves as it was
-
-module _ (t : Tables) (k : ClassHeap) (s : ℕ) where
-  -- the number of spans used
-  pub reclaim-one-used : reclaimOne t k s .used ≡ t .used
-  unfolding reclaimOne reclaimPending stored
-  reclaim-one-used =
-      cond-both (λ u. u .used ≡ t .used) (hasPending t s) (refile (reclaimPending t s) k fullList s) t
-      (λ e. refile-quiet (reclaimPending t s) k fullList (omega arith) s .used) (λ e. refl)
-
-  -- the count of every magazine
-  pub reclaim-one-count : (j : ClassHeap) → countAt (reclaimOne t k s) j ≡ countAt t j
-  unfolding reclaimOne reclaimPending stored
-  reclaim-one-count j =
-      cond-both (λ u. countAt u j ≡ countAt t j) (hasPending t s) (refile (reclaimPending t s) k fullList s) t
-      (λ e. quiet-count (refile-quiet (reclaimPending t s) k fullList (omega arith) s) j) (λ e. refl)
-
--- the same of the walk
-pub reclaim-used : (n : ℕ) (t : Tables) (k : ClassHeap) (x : ℕ) → reclaim n t k x .used ≡ t .used
-unfolding reclaim
-reclaim-used zero t k x = refl
-reclaim-used (suc n) t k x =
-    cond-both (λ u. u .used ≡ t .used) (eqb x 0) t (reclaim n (reclaimOne t k (x - 1)) k (nextAt t (x - 1))) (λ e. refl)
-    (λ e. reclaim-used n (reclaimOne t k (x - 1)) k (nextAt t (x - 1)) ∙ reclaim-one-used t k (x - 1))
-
-pub reclaim-count : (n : ℕ) (t : Tables) (k : ClassHeap) (x : ℕ) (j : ClassHeap) → countAt (reclaim n t k x) j ≡ countAt t j
-unfolding reclaim
-reclaim-count zero t k x j = refl
-reclaim-count (suc n) t k x j =
-    cond-both (λ u. countAt u j ≡ countAt t j) (eqb x 0) t (reclaim n (reclaimOne t k (x - 1)) k (nextAt t (x - 1))) (λ e. refl)
-    (λ e. reclaim-count n (reclaimOne t k (x - 1)) k (nextAt t (x - 1)) j ∙ reclaim-one-count t k (x - 1) j)
 
 -- ---- full spans
 
@@ -88,9 +56,9 @@ module _ {g : Shape} {h c : ℕ} (hh : h < g .heaps) (hc : c < classes g) where
     -- ---- one span
 
     -- a full span with pending frees, folded, unlinked and placed
-    pub reclaim-one-kept : {s : ℕ} → FullSpan t (classHeap g h c) s → Whole g (reclaimOne t (classHeap g h c) s)
+    pub reclaim-one-whole : {s : ℕ} → FullSpan t (classHeap g h c) s → Whole g (reclaimOne t (classHeap g h c) s)
     unfolding reclaimOne
-    reclaim-one-kept {s} w =
+    reclaim-one-whole {s} w =
         let f = o .near .filled in
         let u = w .belongs .used in
         cond-both (Whole g) (hasPending t s) (refile (reclaimPending t s) (classHeap g h c) fullList s) t
@@ -132,8 +100,9 @@ module _ {g : Shape} {h c : ℕ} (hh : h < g .heaps) (hc : c < classes g) where
         full = r .occupied ∙ p .0 .full;
       }
 
-  -- ---- the walk, whatever its fuel, from a link to none or to a full span
+  -- ---- the walk
 
+  -- whatever its fuel, from a link to none or to a full span
   pub reclaim-whole :
       (n : ℕ) {t : Tables} (x : ℕ) → Whole g t → FullLink t (classHeap g h c) x → Whole g (reclaim n t (classHeap g h c) x)
   unfolding reclaim
@@ -142,7 +111,7 @@ module _ {g : Shape} {h c : ℕ} (hh : h < g .heaps) (hc : c < classes g) where
       cond-both (Whole g) (eqb x 0) t (reclaim n (reclaimOne t (classHeap g h c) (x - 1)) (classHeap g h c) (nextAt t (x - 1))) (λ e. o)
       (λ e.
       let f = w (x - 1) (omega (arith, eqb-false x 0 e)) in
-      reclaim-whole n (nextAt t (x - 1)) (reclaim-one-kept o f) (full-stays o (x - 1) f))
+      reclaim-whole n (nextAt t (x - 1)) (reclaim-one-whole o f) (full-stays o (x - 1) f))
 
   -- and so from the front of the full list
   pub reclaimed-whole : {t : Tables} → Whole g t → Whole g (reclaim (t .used) t (classHeap g h c) (headAt t (classHeap g h c) fullList))

@@ -1,23 +1,22 @@
 -- A refill keeps a table whole: its fronts are spans of the class and heap, each claim takes one slot at least, so the words used are few. Assumes
 -- nothing.
-use mathlib.Core.Path.{_≡_, refl, sym, ap, subst, _∙_}
+use mathlib.Core.Path.{_≡_, refl, subst}
 use mathlib.Core.Bool.{cond}
 use mathlib.Core.List.{List}
-use mathlib.Core.Logic.{_⊎_, inl, inr, ⊎-elim}
 use Prim.Native.Nat.{ℕ, zero, suc, _+_, _-_, _<_, _≤_}
 use native.Mathlib.Omega.{arith}
 use borrow.Author.Tests.{eqb-true, eqb-false, ltb-true}
 use lib.Dec.{ltb}
 use lib.ListN.{getD}
 use Rattle.laws.proofs.CondLaws.{cond-both}
-use Rattle.tables.specs.declared.ClassHeap.{ClassHeap}
 use Rattle.tables.specs.Shape.{Shape, classes, classHeap}
 use Rattle.tables.specs.Cells.{Tables, headAt, partialList, countAt}
 use Rattle.class_heap.specs.Steps.{noPartial, replenish, claimFront, refill, refilled, Refilled}
 use Rattle.sound.specs.Sound.{Belongs}
+use Rattle.replenishing.proofs.ReplenishingLaws.{replenish-count}
 use Rattle.refilling.specs.Fronts.{Fronts}
-use Rattle.homes.specs.Homes.{Whole, Ready}
-use Rattle.sound_steps.proofs.ReplenishSteps.{replenish-count, supplied-whole, supplied-ready, replenish-kept}
+use Rattle.homes.specs.Homes.{Whole}
+use Rattle.sound_steps.proofs.ReplenishSteps.{supplied-whole, supplied-ready, replenish-kept}
 use Rattle.sound_steps.proofs.ClaimSteps.{Claims, claim-front-claims}
 
 module _ {g : Shape} {h c : ℕ} (hh : h < g .heaps) (hc : c < classes g) where

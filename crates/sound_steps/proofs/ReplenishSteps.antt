@@ -1,12 +1,12 @@
 -- A partial span for a claim: reactivate, create, supply and replenish leave a table whole, or ready for a claim. Assumes nothing.
-use mathlib.Core.Path.{_≡_, refl, sym, ap, subst, _∙_}
-use mathlib.Core.Bool.{Bool, true, false, cond}
+use mathlib.Core.Path.{_≡_, refl, ap, subst, _∙_}
+use mathlib.Core.Bool.{cond}
 use mathlib.Core.List.{List}
 use mathlib.Core.Logic.{_⊎_, inl, inr, ⊎-elim}
-use Prim.Native.Nat.{ℕ, zero, suc, _+_, _-_, _<_, _≤_}
+use Prim.Native.Nat.{ℕ, _+_, _-_, _<_, _≤_}
 use native.Mathlib.Omega.{arith}
 use native.Mathlib.Decide.{ℕ-discrete}
-use borrow.Author.Tests.{eqb-true, eqb-false, ltb-true, ltb-false}
+use borrow.Author.Tests.{eqb-true, eqb-false, ltb-true}
 use lib.Dec.{eqb, ltb}
 use lib.ListN.{getD}
 use Rattle.laws.specs.Listed.{changed}
@@ -14,54 +14,19 @@ use Rattle.laws.proofs.CondLaws.{cond-both}
 use Rattle.laws.proofs.ListedLaws.{changed-same, changed-other, listed-as, listed-homes}
 use Rattle.tables.specs.declared.ClassHeap.{ClassHeap}
 use Rattle.tables.specs.Shape.{Shape, classes, classHeap}
-use Rattle.tables.specs.Cells.{Tables, classField, ownerField, occupiedField, previousField, nextField, occupiedAt, headAt, setHead, partialList, fullList, emptyList, reserve, countAt}
+use Rattle.tables.specs.Cells.{Tables, classField, ownerField, occupiedField, previousField, nextField, headAt, setHead, partialList, fullList, emptyList, reserve}
 use Rattle.linked_list.specs.Lists.{push, remove, pop}
 use Rattle.linked_list.specs.Named.{RowName, ListName, noList}
 use Rattle.linked_list.proofs.ListedKept.{no-list}
-use Rattle.linked_list.proofs.QuietLaws.{remove-quiet, push-quiet, quiet-occupied, quiet-count}
+use Rattle.linked_list.proofs.QuietLaws.{remove-quiet, quiet-occupied}
 use Rattle.span.specs.Span.{newSpan}
 use Rattle.class_heap.specs.Steps.{noPartial, noneEmpty, reactivate, create, supply, reclaim, replenish}
-use Rattle.sound.specs.Sound.{Belongs}
 use Rattle.filled_spans.proofs.NewSpanKept.{new-only, new-record, new-kept}
-use Rattle.placing.proofs.PlacingQuiet.{reactivate-quiet}
 use Rattle.replenishing.proofs.ReplenishingLaws.{some-empty}
-use Rattle.homes.specs.Homes.{Whole, Loose, But, Ready}
+use Rattle.homes.specs.Homes.{Whole, But, Ready}
 use Rattle.homes.proofs.HomesFrame.{home-as}
-use Rattle.homes.proofs.HomesMoved.{front-member, push-kept, push-ready, remove-kept, take-kept}
-use Rattle.sound_steps.proofs.ReclaimSteps.{reclaim-used, reclaim-count, reclaimed-whole}
-
--- ---- counts stay, and at most one span is created
-
-module _ (t : Tables) (k : ClassHeap) where
-  -- a new span, pushed, leaves every magazine's count
-  pub create-count : (j : ClassHeap) → countAt (create t k) j ≡ countAt t j
-  unfolding create newSpan
-  create-count j = quiet-count (push-quiet (newSpan t k) k partialList (omega arith) (t .used)) j
-
-  -- and is one span more
-  pub create-used : create t k .used ≡ t .used + 1
-  unfolding create newSpan push
-  create-used = refl
-
--- a supply leaves every magazine's count
-pub supply-count : (limit : ℕ) (t : Tables) (k j : ClassHeap) → countAt (supply limit t k) j ≡ countAt t j
-unfolding supply
-supply-count limit t k j =
-    let P : Tables → Type 0 = λ u. countAt u j ≡ countAt t j in
-    cond-both P (noPartial t k) (cond (noneEmpty t k) (cond (ltb (t .used) limit) (create t k) t) (reactivate t k)) t
-    (λ e.
-    cond-both P (noneEmpty t k) (cond (ltb (t .used) limit) (create t k) t) (reactivate t k)
-    (λ d. cond-both P (ltb (t .used) limit) (create t k) t (λ l. create-count t k j) (λ l. refl))
-    (λ d. quiet-count (reactivate-quiet t k) j))
-    (λ e. refl)
-
--- and so does a replenish
-pub replenish-count : (limit : ℕ) (t : Tables) (k j : ClassHeap) → countAt (replenish limit t k) j ≡ countAt t j
-unfolding replenish
-replenish-count limit t k j =
-    let v = reclaim (t .used) t k (headAt t k fullList) in
-    cond-both (λ u. countAt u j ≡ countAt t j) (noPartial t k) (supply limit v k) t
-    (λ e. supply-count limit v k j ∙ reclaim-count (t .used) t k (headAt t k fullList) j) (λ e. refl)
+use Rattle.homes.proofs.HomesMoved.{front-member, push-ready, remove-kept, take-kept}
+use Rattle.sound_steps.proofs.ReclaimSteps.{reclaimed-whole}
 
 -- ---- what there is to take
 

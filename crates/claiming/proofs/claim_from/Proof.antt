@@ -3,8 +3,9 @@ use borrow.Author.Needs.{needs}
 use mathlib.Core.Path.{_≡_}
 use mathlib.Core.List.{[]}
 use native.Mathlib.Omega.{arith}
+use Rattle.placing.proofs.PlacingKept.{working-room}
 use Rattle.reclaiming.proofs.ReclaimingLaws.{working-cells}
-use Rattle.claiming.proofs.ClaimingLaws.{working-room, own-right, own-count, claimable-as, claim-made}
+use Rattle.claiming.proofs.ClaimingLaws.{own-right, own-count, claimable-as, claim-made}
 use Rattle.claiming.proofs.claim_from.Statement.{statement}
 use Rattle.claiming.proofs.claim_from.Tie as tie
 

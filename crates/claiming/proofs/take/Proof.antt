@@ -3,8 +3,8 @@ use borrow.Author.Needs.{needs}
 use mathlib.Core.Path.{_≡_, refl}
 use mathlib.Core.List.{[]}
 use native.Mathlib.Omega.{arith}
-use Rattle.placing.proofs.PlacingKept.{working-as, working-links}
-use Rattle.claiming.proofs.ClaimingLaws.{claimable-is, working-room, entries-few, taken-fits, pushed-working, taken-none, taken-some}
+use Rattle.placing.proofs.PlacingKept.{working-as, working-links, working-room}
+use Rattle.claiming.proofs.ClaimingLaws.{claimable-is, entries-few, taken-fits, pushed-working, taken-none, taken-some}
 use Rattle.claiming.proofs.take.Statement.{statement}
 use Rattle.claiming.proofs.take.Tie as tie
 

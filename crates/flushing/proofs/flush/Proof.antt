@@ -2,7 +2,8 @@
 use borrow.Author.Needs.{needs}
 use mathlib.Core.Path.{_≡_, sym, _∙_}
 use native.Mathlib.Omega.{arith}
-use Rattle.flushing.proofs.FlushingLaws.{working-room, flush-low, flush-out, Flushing, flush-start, flush-again}
+use Rattle.placing.proofs.PlacingKept.{working-room}
+use Rattle.flushing.proofs.FlushingLaws.{flush-low, flush-out, Flushing, flush-start, flush-again}
 use Rattle.flushing.proofs.flush.Statement.{statement}
 use Rattle.flushing.proofs.flush.Tie as tie
 

@@ -1,7 +1,8 @@
 -- `flushing::flush_one` meets its contract: the top entry popped, and its slot given back. Assumes nothing.
 use borrow.Author.Needs.{needs}
 use mathlib.Core.Path.{_≡_}
-use Rattle.flushing.proofs.FlushingLaws.{working-room, popped-returnable, flush-one-made}
+use Rattle.placing.proofs.PlacingKept.{working-room}
+use Rattle.flushing.proofs.FlushingLaws.{popped-returnable, flush-one-made}
 use Rattle.flushing.proofs.flush_one.Statement.{statement}
 use Rattle.flushing.proofs.flush_one.Tie as tie
 

@@ -1,7 +1,7 @@
 -- `heap::dealloc_local` meets its contract: a flush where the magazine is full, then a push. Assumes nothing.
 use borrow.Author.Needs.{needs}
 use mathlib.Core.Path.{_≡_}
-use Rattle.claiming.proofs.ClaimingLaws.{working-room}
+use Rattle.placing.proofs.PlacingKept.{working-room}
 use Rattle.heap.proofs.HeapLaws.{flushed-here, flushed-room-here, block-small, dealloc-made}
 use Rattle.heap.proofs.dealloc_local.Statement.{statement}
 use Rattle.heap.proofs.dealloc_local.Tie as tie

@@ -5,8 +5,7 @@ use Prim.Native.Nat.{ℕ, _<_}
 use native.Mathlib.Omega.{arith}
 use Rattle.tables.specs.Cells.{tables}
 use Rattle.linked_list.proofs.ReachLaws.{head-here}
-use Rattle.placing.proofs.PlacingKept.{working-links}
-use Rattle.claiming.proofs.ClaimingLaws.{working-room}
+use Rattle.placing.proofs.PlacingKept.{working-links, working-room}
 use Rattle.refilling.proofs.RefillingLaws.{refill-out, refill-full, Refilling, refill-start, capacity-few, replenished-working, refill-ends, refill-fronted, refill-again}
 use Rattle.refilling.proofs.refill.Statement.{statement}
 use Rattle.refilling.proofs.refill.Tie as tie

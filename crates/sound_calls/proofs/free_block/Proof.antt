@@ -1,7 +1,7 @@
 -- `sound_calls::free_block` meets its contract, by the block's state. Assumes nothing.
 use borrow.Author.Needs.{needs}
 use mathlib.Core.Path.{_≡_, sym, _∙_}
-use Rattle.claiming.proofs.ClaimingLaws.{working-room}
+use Rattle.placing.proofs.PlacingKept.{working-room}
 use Rattle.reclaiming.proofs.ReclaimingLaws.{working-cells}
 use Rattle.heap.proofs.HeapLaws.{block-slot, block-small}
 use Rattle.sound_calls.proofs.FreeTests.{block-freeable, block-not-out, block-out}

@@ -1,3 +1,0 @@
-pub mod LinkedKept
-pub mod OwnKept
-pub mod FrontsKept

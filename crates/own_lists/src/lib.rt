@@ -1,1 +1,0 @@
-// Theorems alone: the lists of one class of one heap hold spans of it, through every step of a refill.
