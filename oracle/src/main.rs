@@ -12,9 +12,12 @@ mod utils;
 
 // The harness.
 mod call;
-#[cfg(compiled)]
+mod clauses;
+#[cfg(linked_leaves)]
 mod compare;
 mod cover;
+#[cfg(linked_check_leaf)]
+mod damage;
 mod driver;
 mod generate;
 mod mixes;
@@ -46,8 +49,10 @@ fn main() {
         ["mixes"] => mixes::command(),
         ["selftest"] => selftest::command("40"),
         ["selftest", lists] => selftest::command(lists),
-        #[cfg(compiled)]
+        #[cfg(linked_leaves)]
         ["compare", operations] => compare::command(operations),
+        #[cfg(linked_check_leaf)]
+        ["damage", lists] => damage::command(lists),
         _ => Err(USAGE.to_string()),
     };
     if let Err(message) = outcome {

@@ -4,7 +4,7 @@
 use crate::table::{Table, CLASSES, ENTRIES_A_HEAP, HEADS, RECORD, REMOTE_SUMMARY, SLOTS};
 
 /// Slot sizes by their rule: 16 to 128 by 16, then groups of four with the step doubled.
-fn slot_sizes() -> Vec<u64> {
+pub fn slot_sizes() -> Vec<u64> {
     let mut sizes: Vec<u64> = (1..=8).map(|times| times * 16).collect();
     let mut step = 32;
     while sizes.len() < CLASSES {
@@ -16,11 +16,11 @@ fn slot_sizes() -> Vec<u64> {
     sizes
 }
 
-fn slots(size: u64) -> u64 {
+pub fn slots(size: u64) -> u64 {
     (131072 / size).clamp(8, 4096)
 }
 
-fn capacity(size: u64) -> usize {
+pub fn capacity(size: u64) -> usize {
     (4096 / size).clamp(8, 64) as usize
 }
 
@@ -53,7 +53,7 @@ fn ensure(holds: bool, fault: impl FnOnce() -> String) -> Result<(), String> {
 }
 
 /// The bits of word `word` that stand for slots of a span of `slots` slots.
-fn in_range(word: usize, slots: u64) -> u64 {
+pub fn in_range(word: usize, slots: u64) -> u64 {
     let below = slots.saturating_sub(64 * word as u64).min(64);
     match below {
         64 => u64::MAX,

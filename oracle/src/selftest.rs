@@ -2,6 +2,7 @@
 
 use crate::{
     call::number,
+    clauses::Reading,
     mixes::{Mix, MIXES},
     play,
     random::Random,
@@ -50,6 +51,10 @@ fn one_list(mix: &'static Mix, seed: u64) -> Result<usize, String> {
             .map_err(|fault| format!("after {call}: {fault}"))
     })?;
     find_damage(&played.table, heaps as usize, spans as usize)?;
+    let faults = Reading::new().faults(&played.table, heaps as usize, spans as usize);
+    if !faults.none() {
+        return Err(format!("broken at the end: {}", faults.named().join("; ")));
+    }
     Ok(played.answers.len())
 }
 
