@@ -122,6 +122,10 @@ impl Reading {
         self.capacities[class]
     }
 
+    pub fn slots(&self, class: usize) -> u64 {
+        self.slots[class]
+    }
+
     /// The in-range set bits of a span, were it of that class.
     pub fn set_bits(&self, table: &Table, span: usize, class: usize) -> u64 {
         let words = table.words(span)[1..65].iter().enumerate();

@@ -9,7 +9,7 @@ use crate::{
     play,
     random::Random,
     recipe::Recipe,
-    table::{Table, BITS_A_SPAN, CLASSES, HEADS, RECORD, REMOTE_SUMMARY, SLOTS},
+    table::{Table, BITS_A_SPAN, CLASSES, ENTRIES_A_HEAP, HEADS, RECORD, REMOTE_SUMMARY, SLOTS},
 };
 
 // A slice is passed as its start and its length.
@@ -53,11 +53,15 @@ enum Kind {
     Count,
     Used,
     MendedLocal,
+    MendedByAll,
     MendedRemote,
     HeadsMoved,
+    MagazineFilled,
+    MagazineOverfilled,
+    SpanFewer,
 }
 
-const KINDS: [(Kind, &str); 18] = [
+const KINDS: [(Kind, &str); 22] = [
     (Kind::LocalSummary, "local summary"),
     (Kind::LocalWord, "local word"),
     (Kind::RemoteSummary, "remote summary"),
@@ -74,8 +78,21 @@ const KINDS: [(Kind, &str); 18] = [
     (Kind::Count, "magazine's count"),
     (Kind::Used, "used"),
     (Kind::MendedLocal, "local word, summary and count mended"),
+    (
+        Kind::MendedByAll,
+        "local word, summary mended, count mended by all bits",
+    ),
     (Kind::MendedRemote, "remote word, summary mended"),
     (Kind::HeadsMoved, "two heads of a class exchanged or alike"),
+    (Kind::MagazineFilled, "magazine filled with right entries"),
+    (
+        Kind::MagazineOverfilled,
+        "magazine filled with right entries, and one more",
+    ),
+    (
+        Kind::SpanFewer,
+        "every span used, and the table lent as one span shorter",
+    ),
 ];
 
 #[derive(Clone, Copy)]
@@ -225,14 +242,49 @@ impl Sample {
         self.table.spans[span * RECORD + 2] = occupied;
     }
 
+    /// The count as one has it who takes the bits past the end for set: all set bits but so many.
+    fn count_all(&mut self, span: usize, reading: &Reading) {
+        let class = self.table.record(span)[0] as usize;
+        let words = &self.table.words(span)[1..REMOTE_SUMMARY];
+        let all: u64 = words.iter().map(|word| word.count_ones() as u64).sum();
+        let past = SLOTS - reading.slots(class);
+        self.table.spans[span * RECORD + 2] = all.wrapping_sub(past);
+    }
+
+    /// Entries that this magazine could hold besides its own.
+    fn out_blocks(&self, row: usize, base: usize, reading: &Reading) -> Vec<u64> {
+        let (heap, class) = ((row / CLASSES) as u64, (row % CLASSES) as u64);
+        let held = &self.table.entries[base..][..self.row(row)[4] as usize];
+        let of_row = |span: &u64| self.table.record(*span as usize)[..2] == [class, heap];
+        let slots = reading.slots(class as usize);
+        let blocks = (0..self.table.used)
+            .filter(of_row)
+            .flat_map(|span| (0..slots).map(move |slot| (span, slot)));
+        blocks
+            .filter(|(span, slot)| {
+                let bit = |from: usize| {
+                    let word = self.table.words(*span as usize)[from + *slot as usize / 64];
+                    word >> (slot % 64) & 1 == 1
+                };
+                bit(1) && !bit(REMOTE_SUMMARY + 1)
+            })
+            .map(|(span, slot)| span * SLOTS + slot)
+            .filter(|entry| !held.contains(entry))
+            .collect()
+    }
+
+    /// The lengths that heaps and spans ask for.
+    fn lengths(&self) -> [usize; 4] {
+        [
+            self.spans * BITS_A_SPAN,
+            self.spans * RECORD,
+            self.heaps * ENTRIES_A_HEAP,
+            self.heaps * CLASSES * HEADS,
+        ]
+    }
+
     fn asked(&self) -> u64 {
-        let lengths = [
-            self.table.bits.len(),
-            self.table.spans.len(),
-            self.table.entries.len(),
-            self.table.heads.len(),
-        ];
-        self.asked_with(self.heaps as u64, self.spans as u64, lengths)
+        self.asked_with(self.heaps as u64, self.spans as u64, self.lengths())
     }
 
     /// The compiled check, told these numbers and lengths; no length is above the true one.
@@ -335,6 +387,8 @@ impl Tally {
         self.one_cell(&mut sample, random)?;
         self.mended_words(&mut sample, random)?;
         self.moved_heads(&mut sample)?;
+        self.filled_magazines(&mut sample)?;
+        self.one_span_fewer(&mut sample)?;
         assert!(sample.table == whole, "a damage was left behind");
         Ok(())
     }
@@ -379,8 +433,12 @@ impl Tally {
                 for value in values.into_iter().filter(|value| *value != kept) {
                     sample.table.bits[span * BITS_A_SPAN + place] = value;
                     sample.mend(span, &self.reading);
-                    self.judge(sample, kind)
-                        .map_err(|fault| format!("{value} in word {place} of {span}: {fault}"))?;
+                    let told = |fault| format!("{value} in word {place} of {span}: {fault}");
+                    self.judge(sample, kind).map_err(told)?;
+                    if place < REMOTE_SUMMARY {
+                        sample.count_all(span, &self.reading);
+                        self.judge(sample, Kind::MendedByAll).map_err(told)?;
+                    }
                 }
                 sample.table.bits[span * BITS_A_SPAN..][..BITS_A_SPAN].copy_from_slice(&words);
                 sample.table.spans[span * RECORD..][..RECORD].copy_from_slice(&record);
@@ -409,15 +467,49 @@ impl Tally {
         Ok(())
     }
 
+    /// A magazine with as many right entries as it may hold; and one more, in the first cell of the
+    /// next one, which holds none: the count is then all that is wrong.
+    fn filled_magazines(&mut self, sample: &mut Sample) -> Result<(), String> {
+        let mut base = 0;
+        for row in 0..sample.heaps * CLASSES - 1 {
+            let capacity = self.reading.capacity(row % CLASSES);
+            let (from, count) = (base, sample.row(row)[4] as usize);
+            base += capacity;
+            let blocks = sample.out_blocks(row, from, &self.reading);
+            if count + blocks.len() <= capacity || sample.row(row + 1)[4] != 0 {
+                continue;
+            }
+            let kept = sample.table.entries[from..=from + capacity].to_vec();
+            let more = capacity + 1 - count;
+            sample.table.entries[from + count..][..more].copy_from_slice(&blocks[..more]);
+            for (kind, filled) in [
+                (Kind::MagazineFilled, capacity),
+                (Kind::MagazineOverfilled, capacity + 1),
+            ] {
+                sample.table.heads[row * HEADS + 4] = filled as u64;
+                self.judge(sample, kind)
+                    .map_err(|fault| format!("{filled} entries in row {row}: {fault}"))?;
+            }
+            sample.table.heads[row * HEADS + 4] = count as u64;
+            sample.table.entries[from..=from + capacity].copy_from_slice(&kept);
+        }
+        Ok(())
+    }
+
+    /// The last span used stands past the end of what is lent, with cells that are right.
+    fn one_span_fewer(&mut self, sample: &mut Sample) -> Result<(), String> {
+        if sample.table.used as usize == sample.spans && sample.spans > 1 {
+            sample.spans -= 1;
+            self.judge(sample, Kind::SpanFewer)?;
+            sample.spans += 1;
+        }
+        Ok(())
+    }
+
     /// Numbers and lengths that are not as stated.
     fn lengths(&mut self, sample: &Sample) -> Result<(), String> {
         let (heaps, spans) = (sample.heaps as u64, sample.spans as u64);
-        let right = [
-            sample.table.bits.len(),
-            sample.table.spans.len(),
-            sample.table.entries.len(),
-            sample.table.heads.len(),
-        ];
+        let right = sample.lengths();
         let mut wrong = vec![
             (0, spans, right),
             (17, spans, right),
