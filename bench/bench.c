@@ -114,6 +114,8 @@ static uint64_t asked(check *f, const table *t) {
              t->heads, t->heads_length, t->used);
 }
 
+enum { DAMAGES = 500 };
+
 /* Both answer alike on the table and on damages of it, so that neither is fast by leaving something out. */
 static void expect_same_answers(table *t) {
     if (asked(sound_in_c, t) != 0 || asked(laggersten_leaf_sound, t) != 0) {
@@ -122,7 +124,7 @@ static void expect_same_answers(table *t) {
     }
     uint64_t *parts[] = {t->bits, t->records, t->entries, t->heads};
     size_t lengths[] = {t->bits_length, t->records_length, t->entries_length, t->heads_length}, unsound = 0;
-    for (int tries = 0; tries < 2000; tries++) {
+    for (int tries = 0; tries < DAMAGES; tries++) {
         size_t part = below(4);
         uint64_t *cell = parts[part] + below(lengths[part]), kept = *cell;
         *cell = below(2) ? kept + 1 : kept ^ (uint64_t)1 << below(64);
@@ -134,13 +136,14 @@ static void expect_same_answers(table *t) {
         }
         unsound += c == 2;
     }
-    printf("%4d spans, %2d heaps: both find the table sound, and the same %d of 2000 damages unsound\n", (int)t->spans,
-           (int)t->heaps, (int)unsound);
+    printf("%4d spans, %2d heaps: both find the table sound, and the same %d of %d damages unsound\n", (int)t->spans,
+           (int)t->heaps, (int)unsound, DAMAGES);
 }
 
+/* Processor time, since the wall clock also counts what other programs take. */
 static double now(void) {
     struct timespec at;
-    clock_gettime(CLOCK_MONOTONIC, &at);
+    clock_gettime(CLOCK_PROCESS_CPUTIME_ID, &at);
     return (double)at.tv_sec * 1e9 + (double)at.tv_nsec;
 }
 
@@ -161,50 +164,50 @@ static int by_size(const void *a, const void *b) {
     return (x > y) - (x < y);
 }
 
-typedef struct {
-    double c, proved;
-} times;
+enum { SHAPES = 3 };
 
-/* The medians of stretches that are taken in turn, so that a slower spell of the machine meets both. */
-static times timed(const table *t, int repetitions) {
-    double *c = calloc((size_t)repetitions, sizeof *c), *proved = calloc((size_t)repetitions, sizeof *proved);
-    if (c == NULL || proved == NULL)
-        abort();
-    int calls = (int)(20000 / t->spans);
-    for (int i = 0; i < repetitions; i++) {
-        c[i] = stretch(sound_in_c, t, calls);
-        proved[i] = stretch(laggersten_leaf_sound, t, calls);
-    }
-    qsort(c, (size_t)repetitions, sizeof *c, by_size);
-    qsort(proved, (size_t)repetitions, sizeof *proved, by_size);
-    times medians = {c[repetitions / 2], proved[repetitions / 2]};
-    free(c);
-    free(proved);
-    return medians;
+static const struct {
+    uint64_t heaps, spans;
+} shapes[SHAPES] = {{16, 1024}, {16, 32}, {1, 32}};
+
+static double median(double *taken, int count) {
+    qsort(taken, (size_t)count, sizeof *taken, by_size);
+    return taken[count / 2];
 }
 
 int main(int count, char **words) {
-    int repetitions = count > 1 ? atoi(words[1]) : 201;
+    int repetitions = count > 1 ? atoi(words[1]) : 21;
     if (repetitions < 1) {
         fprintf(stderr, "usage: bench [REPETITIONS]\n");
         return 2;
     }
-    struct {
-        uint64_t heaps, spans;
-    } shapes[] = {{16, 1024}, {16, 32}, {1, 32}};
-    times medians[3];
-    for (int i = 0; i < 3; i++) {
+    table tables[SHAPES];
+    double *c[SHAPES], *proved[SHAPES];
+    for (int i = 0; i < SHAPES; i++) {
         state = 5;
-        table t = full_table(shapes[i].heaps, shapes[i].spans);
-        expect_same_answers(&t);
-        medians[i] = timed(&t, repetitions);
+        tables[i] = full_table(shapes[i].heaps, shapes[i].spans);
+        expect_same_answers(&tables[i]);
+        c[i] = calloc((size_t)repetitions, sizeof(double));
+        proved[i] = calloc((size_t)repetitions, sizeof(double));
+        if (c[i] == NULL || proved[i] == NULL)
+            abort();
     }
-    for (int i = 0; i < 3; i++)
+    /* All stretches are taken in turn, so that a slower spell of the machine meets every table and both checks. */
+    for (int turn = 0; turn < repetitions; turn++)
+        for (int i = 0; i < SHAPES; i++) {
+            int calls = (int)(20000 / shapes[i].spans);
+            c[i][turn] = stretch(sound_in_c, &tables[i], calls);
+            proved[i][turn] = stretch(laggersten_leaf_sound, &tables[i], calls);
+        }
+    double a_span[SHAPES];
+    for (int i = 0; i < SHAPES; i++) {
+        double in_c = median(c[i], repetitions), ours = median(proved[i], repetitions);
+        a_span[i] = ours / (double)shapes[i].spans;
         printf("%4d spans, %2d heaps: C %8.2f us, proved %8.2f us, %6.1f ns a span; proved / C %.2f\n",
-               (int)shapes[i].spans, (int)shapes[i].heaps, medians[i].c / 1e3, medians[i].proved / 1e3,
-               medians[i].proved / (double)shapes[i].spans, medians[i].proved / medians[i].c);
-    for (int i = 1; i < 3; i++)
+               (int)shapes[i].spans, (int)shapes[i].heaps, in_c / 1e3, ours / 1e3, a_span[i], ours / in_c);
+    }
+    for (int i = 1; i < SHAPES; i++)
         printf("time a span at 1024 spans and 16 heaps / at 32 spans and %d heaps: %.2f\n", (int)shapes[i].heaps,
-               medians[0].proved / 1024 / (medians[i].proved / 32));
+               a_span[0] / a_span[i]);
     return 0;
 }
