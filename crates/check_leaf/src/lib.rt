@@ -2,7 +2,7 @@
 ghost use mathlib.Core.Path.{_≡_};
 ghost use Rattle.tables.specs.Shape.{baseShape};
 ghost use Rattle.tables.specs.Cells.{tables as table};
-ghost use Rattle.check_leaf.specs.Answered.{soundNumber};
+ghost use Rattle.guard.specs.Guard.{soundNumber};
 
 const MOST_SPANS: u64 = 1024;
 
@@ -20,7 +20,7 @@ pub extern "C" fn laggersten_leaf_sound(
     ensures { λ r. ⌜ r ≡ soundNumber (baseShape heaps spans) (table (now (bits .entry)) (now (records .entry)) (now (entries .entry)) (now (heads .entry)) used) ⌝ }
 {
     let sizes = size_classes::slot_sizes();
-    if !fresh::as_stated(
+    guard::sound_number(
         &sizes,
         MOST_SPANS,
         heaps,
@@ -29,11 +29,6 @@ pub extern "C" fn laggersten_leaf_sound(
         records,
         entries,
         heads,
-    ) {
-        return 1;
-    }
-    if sound_check::is_sound(&sizes, bits, records, entries, heads, heaps, spans, used) {
-        return 0;
-    }
-    2
+        used,
+    )
 }

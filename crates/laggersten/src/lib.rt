@@ -1,8 +1,11 @@
-// The public calls: fresh, allocate, free, batch and class summary, with every refusal.
+// The public calls: fresh, allocate and free, with every refusal.
+use calls::Answer;
 ghost use mathlib.Core.Path.{_≡_};
 ghost use Rattle.tables.specs.Shape.{baseShape};
 ghost use Rattle.tables.specs.Cells.{tables as table};
 ghost use Rattle.tables.specs.Fresh.{numbered, fresh as freshly};
+ghost use Rattle.calls.specs.Outcome.{ended};
+ghost use Rattle.calls.specs.Calls.{allocate as allocated, free as released};
 
 const MOST_SPANS: u64 = 1024;
 
@@ -29,5 +32,99 @@ pub fn fresh(
         entries,
         heads,
         used,
+    )
+}
+
+// A block for a request by a heap, with the words lent; a refusal changes nothing.
+pub fn allocate(
+    heaps: u64,
+    spans: u64,
+    bits: &mut [u64],
+    records: &mut [u64],
+    entries: &mut [u64],
+    heads: &mut [u64],
+    used: &mut u64,
+    heap: u64,
+    size: u64,
+    alignment: u64,
+    words: &[u64],
+) -> Answer
+    ensures { λ r. ⌜ ended r (table (now (bits .exit)) (now (records .exit)) (now (entries .exit)) (now (heads .exit)) (now (used .exit))) ≡ allocated (baseShape heaps spans) (table (now (bits .entry)) (now (records .entry)) (now (entries .entry)) (now (heads .entry)) (now (used .entry))) heap size alignment (now (words .entry)) ⌝ }
+{
+    let sizes = size_classes::slot_sizes();
+    let number = guard::sound_number(
+        &sizes,
+        MOST_SPANS,
+        heaps,
+        spans,
+        bits,
+        records,
+        entries,
+        heads,
+        *used,
+    );
+    if number != 0 {
+        return sound_calls::refusal(number);
+    }
+    let lookup = class_lookup::made();
+    sound_calls::allocate_sound(
+        &sizes,
+        &lookup,
+        heaps,
+        spans,
+        bits,
+        records,
+        entries,
+        heads,
+        used,
+        heap,
+        size,
+        alignment,
+        words,
+    )
+}
+
+// A block given back by a heap; a refusal changes nothing.
+pub fn free(
+    heaps: u64,
+    spans: u64,
+    bits: &mut [u64],
+    records: &mut [u64],
+    entries: &mut [u64],
+    heads: &mut [u64],
+    used: &mut u64,
+    heap: u64,
+    span: u64,
+    offset: u64,
+) -> Answer
+    ensures { λ r. ⌜ ended r (table (now (bits .exit)) (now (records .exit)) (now (entries .exit)) (now (heads .exit)) (now (used .exit))) ≡ released (baseShape heaps spans) (table (now (bits .entry)) (now (records .entry)) (now (entries .entry)) (now (heads .entry)) (now (used .entry))) heap span offset ⌝ }
+{
+    let sizes = size_classes::slot_sizes();
+    let number = guard::sound_number(
+        &sizes,
+        MOST_SPANS,
+        heaps,
+        spans,
+        bits,
+        records,
+        entries,
+        heads,
+        *used,
+    );
+    if number != 0 {
+        return sound_calls::refusal(number);
+    }
+    sound_calls::free_sound(
+        &sizes,
+        heaps,
+        spans,
+        bits,
+        records,
+        entries,
+        heads,
+        *used,
+        heap,
+        span,
+        offset,
     )
 }

@@ -1,4 +1,4 @@
--- What the check answers to C: 01's numbers. Assumes nothing.
+-- What every call but the fresh-table maker tests first. Assumes nothing.
 use mathlib.Core.Bool.{cond}
 use Prim.Native.Nat.{ℕ}
 use Rattle.tables.specs.Shape.{Shape}
