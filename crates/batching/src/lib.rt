@@ -1,20 +1,26 @@
 // A batch on a table that is known to be sound: records of 28 bytes, answered one after the other.
 use calls::Answer;
 ghost use mathlib.Core.Path.{_≡_};
+ghost use mathlib.Core.List.{[], _∷_};
 ghost use Prim.Native.Nat.{ℕ, _+_, _*_, _≤_};
 ghost use lib.ListN.{length};
+ghost use lib.Seq.{sets};
 ghost use Rattle.class_lookup.specs.Lookup.{ClassTables};
 ghost use Rattle.tables.specs.Shape.{shape};
 ghost use Rattle.tables.specs.Cells.{tables as table};
 ghost use Rattle.calls.specs.Outcome.{ended};
 ghost use Rattle.calls.specs.Run.{performSound};
-ghost use Rattle.calls.specs.Batch.{recordBytes, marked, recordCall};
+ghost use Rattle.calls.specs.Batch.{recordBytes, marked, recordCall, answerCells};
 ghost use Rattle.sound_calls.specs.Lent.{Lent};
 ghost use Rattle.batching.specs.Kinds.{kindNumber};
 
 const FIRST_MARK: u64 = 0xA5;
 
 const SECOND_MARK: u64 = 0x5A;
+
+const RECORD_BYTES: u64 = 28;
+
+const ANSWER_CELLS: u64 = 3;
 
 const ALLOCATION: u64 = 1;
 
@@ -109,4 +115,23 @@ pub fn perform_record(
         second,
         &words,
     )
+}
+
+// Three numbers, from a place on.
+fn put_three(answers: &mut [u64], at: usize, a: u64, b: u64, c: u64)
+    requires { ⌜ at + 3 ≤ length (now answers) ⌝ }
+    ensures { λ _. ⌜ now (answers .exit) ≡ sets (now (answers .entry)) at (a ∷ b ∷ c ∷ []) ⌝ }
+{
+    answers[at] = a;
+    answers[at + 1] = b;
+    answers[at + 2] = c;
+}
+
+// An answer's three numbers, in the cells of record i.
+fn put_answer(answers: &mut [u64], i: u64, answer: Answer)
+    requires { ⌜ i * answerCells + answerCells ≤ length (now answers) ⌝ }
+    ensures { λ _. ⌜ now (answers .exit) ≡ sets (now (answers .entry)) (i * answerCells) (answer .number ∷ answer .span ∷ answer .offset ∷ []) ⌝ }
+{
+    let at = (i * ANSWER_CELLS) as usize;
+    put_three(answers, at, answer.number, answer.span, answer.offset);
 }
