@@ -5,3 +5,4 @@ pub mod RefillSteps
 pub mod FlushSteps
 pub mod UsedSteps
 pub mod DrySteps
+pub mod RefillEnds
