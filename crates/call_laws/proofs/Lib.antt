@@ -1,1 +1,3 @@
 pub mod ClassCalls
+pub mod NamedLaws
+pub mod AllocationLaws

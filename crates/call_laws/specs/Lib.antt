@@ -1,1 +1,2 @@
 pub mod Exhausted
+pub mod Answers
