@@ -1,3 +1,5 @@
 pub mod ClassCalls
 pub mod NamedLaws
 pub mod AllocationLaws
+pub mod FreeLaws
+pub mod SingleLaws

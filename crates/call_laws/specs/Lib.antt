@@ -1,2 +1,3 @@
 pub mod Exhausted
 pub mod Answers
+pub mod Runs
