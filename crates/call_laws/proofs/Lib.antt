@@ -3,3 +3,4 @@ pub mod NamedLaws
 pub mod AllocationLaws
 pub mod FreeLaws
 pub mod SingleLaws
+pub mod RunLaws
