@@ -4,3 +4,4 @@ pub mod AllocationLaws
 pub mod FreeLaws
 pub mod SingleLaws
 pub mod RunLaws
+pub mod BatchLaws

@@ -39,7 +39,8 @@ unfolding guarded
 guard-passes {g} {t} stated sound o = rw (stated, sound-passes g t sound)
 
 module _ (g : Shape) (sizes : Admissible (g .sizes)) (few : g .spans * mostSlots ≤ 2 ^ 64) (t : Tables) where
-  lent-here : asStated g t ≡ true → isSound g t ≡ true → Lent g t
+  -- A table that passes the checks is lent as the calls ask.
+  pub lent-here : asStated g t ≡ true → isSound g t ≡ true → Lent g t
   lent-here stated e = record { sizes = sizes; stated = stated; sound = rw e at (sound-says g t); few = few }
 
   -- What holds of a call on a lent table and of every refusal holds of the guarded call.

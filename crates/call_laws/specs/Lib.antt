@@ -1,3 +1,4 @@
 pub mod Exhausted
 pub mod Answers
 pub mod Runs
+pub mod Batches
