@@ -13,8 +13,6 @@ use lib.Seq.{sets, sets-eq}
 use lib.Dec.{eqb, leb}
 use Rattle.laws.proofs.CondLaws.{cond-both}
 use Rattle.laws.proofs.SomeLaws.{and-both}
-use Rattle.size_classes.specs.SlotSizes.{Admissible}
-use Rattle.size_classes.specs.Slots.{mostSlots}
 use Rattle.tables.specs.Shape.{Shape}
 use Rattle.tables.specs.Cells.{Tables, asStated}
 use Rattle.sound.specs.Sound.{Sound}
@@ -25,9 +23,10 @@ use Rattle.calls.specs.Outcome.{Outcome, refusal}
 use Rattle.calls.specs.Run.{Call, perform, performSound, Ran, runBy, run, runSound}
 use Rattle.calls.specs.Batch.{recordBytes, recordCall, Batched, batched, answerCells, batchFrom, wholeRecords, batch}
 use Rattle.sound_calls.specs.Lent.{Lent}
+use Rattle.call_laws.specs.Served.{Served}
 use Rattle.call_laws.specs.Batches.{callsFrom, batchCalls, answerNumbers}
 use Rattle.call_laws.specs.Runs.{NeverTwice}
-use Rattle.call_laws.proofs.SingleLaws.{lent-here, perform-refusal}
+use Rattle.call_laws.proofs.SingleLaws.{lent-here, lent-checked, perform-refusal}
 use Rattle.call_laws.proofs.RunLaws.{run-lent, run-sound, run-then}
 
 -- ---- the records one after the other
@@ -71,7 +70,7 @@ batch-from-run (suc n) i g t bytes answers =
 
 -- ---- a batch
 
-module _ (g : Shape) (sizes : Admissible (g .sizes)) (few : g .spans * mostSlots ≤ 2 ^ 64) (t : Tables) (bytes answers : List ℕ) where
+module _ {g : Shape} (w : Served g) (t : Tables) (bytes answers : List ℕ) where
   -- as many answers as the records have fit
   whole-fits : wholeRecords bytes answers ≡ true → length bytes / recordBytes * answerCells ≤ length answers
   unfolding wholeRecords
@@ -117,9 +116,9 @@ module _ (g : Shape) (sizes : Admissible (g .sizes)) (few : g .spans * mostSlots
       cond-both P (asStated g t) _ _
       (λ a.
       cond-both P (wholeRecords bytes answers) _ _
-      (λ w.
-      cond-both P (isSound g t) _ _ (λ b. let x = lent-here g sizes few t a b in inl (x, batch-done x w)) (λ b. inr (omega arith, refl)))
-      (λ w. inr (omega arith, refl)))
+      (λ m.
+      cond-both P (isSound g t) _ _ (λ b. let x = lent-checked w t a b in inl (x, batch-done x m)) (λ b. inr (omega arith, refl)))
+      (λ m. inr (omega arith, refl)))
       (λ a. inr (omega arith, refl))
 
   -- A sound table, whole records and room for the answers: the batch is done.
@@ -130,8 +129,7 @@ module _ (g : Shape) (sizes : Admissible (g .sizes)) (few : g .spans * mostSlots
       (run g t (batchCalls bytes) .table)
   unfolding batch
   batch-is-singles stated sound whole =
-      let x : Lent g t = record { sizes = sizes; stated = stated; sound = sound; few = few } in
-      rw (stated, whole, sound-passes g t sound) (batch-done x whole)
+      rw (stated, whole, sound-passes g t sound) (batch-done (lent-here w t stated sound) whole)
 
   -- A refused batch writes no answer and changes no cell.
   pub batch-refusal : (batch g t bytes answers .number ≡ 0 → ⊥) → batch g t bytes answers ≡ batched (batch g t bytes answers .number) answers t
@@ -158,7 +156,7 @@ module _ (g : Shape) (sizes : Admissible (g .sizes)) (few : g .spans * mostSlots
   unfolding runBy
   refused-record cs ds c n =
       let u = run g t cs .table in
-      let r = perform-refusal g sizes few u c n in
+      let r = perform-refusal w u c n in
       let a : perform g u c .answer ≡ refusal (perform g u c .answer .number) = ap (λ (o : Outcome). o .answer) (r .is) in
       let k : perform g u c .table ≡ u = ap (λ (o : Outcome). o .table) (r .is) in
       let here = run-then (perform g) cs (c ∷ ds) t in

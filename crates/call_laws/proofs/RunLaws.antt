@@ -3,13 +3,11 @@ use mathlib.Core.Path.{_≡_, refl, sym, ap, ap₂, subst, _∙_}
 use mathlib.Core.Bool.{Bool, true, false, true≢false}
 use mathlib.Core.List.{List, [], _∷_, _++_}
 use mathlib.Core.Logic.{_⊎_, inl, inr, ⊎-elim}
-use Prim.Native.Nat.{ℕ, zero, suc, _*_, _^_, _<_, _≤_}
+use Prim.Native.Nat.{ℕ, zero, suc, _<_}
 use native.Mathlib.Decide.{ℕ-discrete}
 use native.Mathlib.Omega.{arith}
 use lib.ListN.{length}
 use Rattle.laws.proofs.FirstLaws.{tested}
-use Rattle.size_classes.specs.SlotSizes.{Admissible}
-use Rattle.size_classes.specs.Slots.{mostSlots}
 use Rattle.tables.specs.Shape.{Shape}
 use Rattle.tables.specs.Cells.{Tables, asStated}
 use Rattle.sound.specs.Sound.{Sound}
@@ -19,11 +17,12 @@ use Rattle.calls.specs.Outcome.{Outcome}
 use Rattle.calls.specs.Calls.{allocate, allocateSound, freeSound}
 use Rattle.calls.specs.Run.{Call, allocation, release, malformed, perform, performSound, Ran, andThen, runBy, run, runSound}
 use Rattle.sound_calls.specs.Lent.{Lent}
+use Rattle.call_laws.specs.Served.{Served}
 use Rattle.call_laws.specs.Answers.{Refusal, Given, NamesOut, Returned}
 use Rattle.call_laws.specs.Runs.{Gives, Frees, callAt, answerAt, FreedBetween, FreedBefore, NeverTwice}
 use Rattle.call_laws.proofs.AllocationLaws.{allocate-sound-cases, given-out, given-was, given-kept}
 use Rattle.call_laws.proofs.FreeLaws.{free-sound-cases, returned-kept}
-use Rattle.call_laws.proofs.SingleLaws.{refusal-keeps, allocate-cases, free-cases, perform-kept, perform-sound, perform-lent}
+use Rattle.call_laws.proofs.SingleLaws.{refusal-keeps, lent-here, allocate-cases, free-cases, perform-kept, perform-sound, perform-lent}
 
 -- ---- one call on a lent table
 
@@ -114,29 +113,29 @@ module _ {g : Shape} where
 
 -- ---- on any table
 
-module _ (g : Shape) (sizes : Admissible (g .sizes)) (few : g .spans * mostSlots ≤ 2 ^ 64) where
+module _ {g : Shape} (w : Served g) where
   -- A list of calls leaves the table as it was, or sound.
   pub run-kept : (cs : List Call) (t : Tables) → (run g t cs .table ≡ t) ⊎ Sound g (run g t cs .table)
   unfolding runBy
   run-kept [] t = inl refl
   run-kept (c ∷ cs) t =
       ⊎-elim
-      (λ e. ⊎-elim (λ d. inl (e ∙ d)) (λ o. inr (subst (Sound g) (sym e) o)) (perform-kept g sizes few t c)) inr
+      (λ e. ⊎-elim (λ d. inl (e ∙ d)) (λ o. inr (subst (Sound g) (sym e) o)) (perform-kept w t c)) inr
       (run-kept cs (perform g t c .table))
 
   module _ (t : Tables) (not : Lent g t → ⊥) where
     -- A call on a table that is not sound gives no block,
     idle-gives : (c : Call) (s start : ℕ) → Gives c (perform g t c .answer) s start → ⊥
     idle-gives (allocation heap size alignment words) s start e =
-        ⊎-elim (λ a. not (a .0)) (λ r. omega (arith, e .0, r .some)) (allocate-cases g sizes few t heap size alignment words)
+        ⊎-elim (λ a. not (a .0)) (λ r. omega (arith, e .0, r .some)) (allocate-cases w t heap size alignment words)
     idle-gives (release heap span offset) s start e = e
     idle-gives malformed s start e = e
 
     -- and leaves it as it is.
     idle-keeps : (c : Call) → perform g t c .table ≡ t
     idle-keeps (allocation heap size alignment words) =
-        ⊎-elim (λ a. absurd (not (a .0))) refusal-keeps (allocate-cases g sizes few t heap size alignment words)
-    idle-keeps (release heap span offset) = ⊎-elim (λ a. absurd (not (a .0))) refusal-keeps (free-cases g sizes few t heap span offset)
+        ⊎-elim (λ a. absurd (not (a .0))) refusal-keeps (allocate-cases w t heap size alignment words)
+    idle-keeps (release heap span offset) = ⊎-elim (λ a. absurd (not (a .0))) refusal-keeps (free-cases w t heap span offset)
     idle-keeps malformed = refl
 
     idle-run : (cs : List Call) (j s start : ℕ) → j < length cs → Gives (callAt cs j) (answerAt (run g t cs .answers) j) s start → ⊥
@@ -153,7 +152,7 @@ module _ (g : Shape) (sizes : Admissible (g .sizes)) (few : g .spans * mostSlots
       ⊎-elim
       (λ a.
       elim (sound g t) [
-        | yes b ↦ yes (record { sizes = sizes; stated = a; sound = b; few = few })
+        | yes b ↦ yes (lent-here w t a b)
         | no b ↦ no (λ x. b (x .sound))
       ])
       (λ a. no (λ x. true≢false (sym (x .stated) ∙ a)))

@@ -5,14 +5,19 @@ use mathlib.Core.Bool.{true, false, cond}
 use mathlib.Core.List.{List}
 use mathlib.Core.Logic.{_⊎_, inl, inr, ⊎-elim}
 use Prim.Native.Nat.{ℕ, _*_, _^_, _<_, _≤_}
+use native.Mathlib.Nat.{mul-le-mul-right}
 use native.Mathlib.Omega.{arith}
+use borrow.Author.Tests.{leb-true}
 use lib.ListN.{length}
+use lib.Dec.{leb}
 use Rattle.laws.proofs.CondLaws.{cond-both}
-use Rattle.size_classes.specs.SlotSizes.{Admissible}
+use Rattle.laws.proofs.SomeLaws.{and-both, and-four}
+use Rattle.size_classes.specs.SlotSizes.{slotSizes}
 use Rattle.size_classes.specs.Class.{inRange, smallestClass}
 use Rattle.size_classes.specs.Slots.{mostSlots}
-use Rattle.tables.specs.Shape.{Shape}
-use Rattle.tables.specs.Cells.{Tables, asStated}
+use Rattle.size_classes.proofs.SlotSizeLaws.{slotSizes-admissible}
+use Rattle.tables.specs.Shape.{Shape, mostHeaps, mostSpans, baseShape}
+use Rattle.tables.specs.Cells.{Tables, rightShape, rightLengths, asStated}
 use Rattle.sound.specs.Sound.{Sound}
 use Rattle.sound.specs.Decided.{isSound}
 use Rattle.sound_laws.proofs.SoundTested.{sound-says, sound-passes}
@@ -20,10 +25,23 @@ use Rattle.calls.specs.Outcome.{Outcome, refused}
 use Rattle.calls.specs.Calls.{guarded, wordsNeeded, allocateSound, allocate, freeSound, free}
 use Rattle.calls.specs.Run.{Call, allocation, release, malformed, perform, performSound}
 use Rattle.sound_calls.specs.Lent.{Lent}
+use Rattle.call_laws.specs.Served.{Served}
 use Rattle.call_laws.specs.Exhausted.{Exhausted}
 use Rattle.call_laws.specs.Answers.{Refusal, Given, Returned}
 use Rattle.call_laws.proofs.AllocationLaws.{refusal-is, allocate-sound-lent, allocate-sound-cases, six-exactly-sound}
 use Rattle.call_laws.proofs.FreeLaws.{free-sound-lent, free-sound-cases}
+
+-- 01's list and limit are served.
+pub base-served : (heaps spans : ℕ) → Served (baseShape heaps spans)
+unfolding rightShape mostSpans mostSlots
+base-served heaps spans =
+    record {
+      sizes = slotSizes-admissible;
+      few =
+          λ e.
+          let r = and-four (leb 1 heaps) (leb heaps mostHeaps) (leb 1 spans) (leb spans mostSpans) e in
+          omega (arith, leb-true spans mostSpans (r .3));
+    }
 
 -- A call is accepted or refused, by its number.
 refusal-number : {t : Tables} {o : Outcome} → Refusal t o → o .answer .number ≡ 0 → ⊥
@@ -38,17 +56,23 @@ pub guard-passes : {g : Shape} {t : Tables} → asStated g t ≡ true → Sound 
 unfolding guarded
 guard-passes {g} {t} stated sound o = rw (stated, sound-passes g t sound)
 
-module _ (g : Shape) (sizes : Admissible (g .sizes)) (few : g .spans * mostSlots ≤ 2 ^ 64) (t : Tables) where
-  -- A table that passes the checks is lent as the calls ask.
-  pub lent-here : asStated g t ≡ true → isSound g t ≡ true → Lent g t
-  lent-here stated e = record { sizes = sizes; stated = stated; sound = rw e at (sound-says g t); few = few }
+module _ {g : Shape} (w : Served g) (t : Tables) where
+  -- A table that is as stated and sound is lent as the calls ask,
+  pub lent-here : asStated g t ≡ true → Sound g t → Lent g t
+  unfolding asStated
+  lent-here stated sound =
+      record { sizes = w .sizes; stated = stated; sound = sound; few = w .few (and-both (rightShape g) (rightLengths g t) stated .0) }
+
+  -- and so is one that passes the checks.
+  pub lent-checked : asStated g t ≡ true → isSound g t ≡ true → Lent g t
+  lent-checked stated e = lent-here stated (rw e at (sound-says g t))
 
   -- What holds of a call on a lent table and of every refusal holds of the guarded call.
   pub by-guard : (P : Outcome → Type 0) (o : Outcome) → (Lent g t → P o) → ((n : ℕ) → 0 < n → P (refused n t)) → P (guarded g t o)
   unfolding guarded
   by-guard P o done not =
       cond-both P (asStated g t) _ _
-      (λ a. cond-both P (isSound g t) _ _ (λ b. done (lent-here a b)) (λ b. not 2 (omega arith)))
+      (λ a. cond-both P (isSound g t) _ _ (λ b. done (lent-checked a b)) (λ b. not 2 (omega arith)))
       (λ a. not 1 (omega arith))
 
   -- ---- allocate
@@ -83,8 +107,8 @@ module _ (g : Shape) (sizes : Admissible (g .sizes)) (few : g .spans * mostSlots
         (Exhausted g t heap (smallestClass (g .sizes) size alignment) → allocate g t heap size alignment words .answer .number ≡ 6)
     unfolding allocate
     allocate-six stated sound hh lent range =
-        let x : Lent g t = record { sizes = sizes; stated = stated; sound = sound; few = few } in
-        rw (guard-passes stated sound (allocateSound g t heap size alignment words)) (six-exactly-sound x heap size alignment words hh lent range)
+        rw (guard-passes stated sound (allocateSound g t heap size alignment words))
+        (six-exactly-sound (lent-here stated sound) heap size alignment words hh lent range)
 
   -- ---- free
 

@@ -2,3 +2,4 @@ pub mod Exhausted
 pub mod Answers
 pub mod Runs
 pub mod Batches
+pub mod Served
