@@ -70,6 +70,12 @@ batch-from-run (suc n) i g t bytes answers =
 
 -- ---- a batch
 
+-- Bytes that are no whole records, or answers too short for them, are refused with 10.
+pub batch-ten :
+    (g : Shape) (t : Tables) (bytes answers : List ℕ) → asStated g t ≡ true → wholeRecords bytes answers ≡ false → batch g t bytes answers ≡ batched 10 answers t
+unfolding batch
+batch-ten g t bytes answers stated e = rw (stated, e)
+
 module _ {g : Shape} (w : Served g) (t : Tables) (bytes answers : List ℕ) where
   -- as many answers as the records have fit
   whole-fits : wholeRecords bytes answers ≡ true → length bytes / recordBytes * answerCells ≤ length answers

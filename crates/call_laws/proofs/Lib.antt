@@ -5,3 +5,4 @@ pub mod FreeLaws
 pub mod SingleLaws
 pub mod RunLaws
 pub mod BatchLaws
+pub mod HistoryLaws

@@ -3,3 +3,4 @@ pub mod Answers
 pub mod Runs
 pub mod Batches
 pub mod Served
+pub mod Histories
