@@ -1,5 +1,4 @@
--- A batch is its records as single calls, in order; a refused batch changes nothing; a refused record writes its own answer and nothing else. Assumes
--- nothing.
+-- A batch is its records as single calls, in order; a refused batch changes nothing; a refused record writes its own answer alone. Assumes nothing.
 use mathlib.Core.Path.{_≡_, refl, sym, ap, ap₂, subst, _∙_}
 use mathlib.Core.Bool.{true, false, _&&_, cond}
 use mathlib.Core.List.{List, [], _∷_, _++_}
@@ -26,8 +25,8 @@ use Rattle.sound_calls.specs.Lent.{Lent}
 use Rattle.call_laws.specs.Served.{Served}
 use Rattle.call_laws.specs.Batches.{callsFrom, batchCalls, answerNumbers}
 use Rattle.call_laws.specs.Runs.{NeverTwice}
-use Rattle.call_laws.proofs.SingleLaws.{lent-here, lent-checked, perform-refusal}
-use Rattle.call_laws.proofs.RunLaws.{run-lent, run-sound, run-then}
+use Rattle.call_laws.proofs.SingleLaws.{lent-here, lent-checked}
+use Rattle.call_laws.proofs.RunLaws.{run-lent, run-sound, refused-among}
 
 -- ---- the records one after the other
 
@@ -48,6 +47,12 @@ numbers-length : (answers : List Answer) → length (answerNumbers answers) ≡ 
 unfolding answerNumbers answerCells
 numbers-length [] = refl
 numbers-length (a ∷ rest) = omega (arith, numbers-length rest)
+
+-- The cells of one list of answers after another.
+numbers-app : (xs ys : List Answer) → answerNumbers (xs ++ ys) ≡ answerNumbers xs ++ answerNumbers ys
+unfolding answerNumbers
+numbers-app [] ys = refl
+numbers-app (x ∷ xs) ys = ap (λ (l : List ℕ). x .number ∷ x .span ∷ x .offset ∷ l) (numbers-app xs ys)
 
 -- the next answer's place
 answer-next : (i : ℕ) → (i + 1) * answerCells ≡ suc (suc (suc (i * answerCells)))
@@ -151,22 +156,23 @@ module _ {g : Shape} (w : Served g) (t : Tables) (bytes answers : List ℕ) wher
       (run-lent (batchCalls bytes) (a .0) .sound)))
       (λ r. inl (ap (λ (b : Batched). b .table) (r .1))) batch-cases
 
-  -- ---- a refused record
-
-  -- A refused call of a list answers its number and zeros, and the calls after it do as if it had not been made.
-  pub refused-record :
-      (cs ds : List Call) (c : Call) → (perform g (run g t cs .table) c .answer .number ≡ 0 → ⊥) →
-      (run g t (cs ++ c ∷ ds) .answers
-      ≡ run g t cs .answers ++ refusal (perform g (run g t cs .table) c .answer .number) ∷ run g (run g t cs .table) ds .answers)
-      × (run g t (cs ++ c ∷ ds) .table ≡ run g t (cs ++ ds) .table)
-  unfolding runBy
-  refused-record cs ds c n =
-      let u = run g t cs .table in
-      let r = perform-refusal w u c n in
-      let a : perform g u c .answer ≡ refusal (perform g u c .answer .number) = ap (λ (o : Outcome). o .answer) (r .is) in
-      let k : perform g u c .table ≡ u = ap (λ (o : Outcome). o .table) (r .is) in
-      let here = run-then (perform g) cs (c ∷ ds) t in
-      let there = run-then (perform g) cs ds t in (
-        here .0 ∙ ap₂ (λ (b : Answer) (v : Tables). run g t cs .answers ++ b ∷ run g v ds .answers) a k,
-        here .1 ∙ ap (λ (v : Tables). run g v ds .table) k ∙ sym (there .1),
-      )
+  -- A refused record writes its number and zeros into its own answer; every other answer, and the table, are as without it.
+  pub batch-refused-record :
+      asStated g t ≡ true → Sound g t → wholeRecords bytes answers ≡ true → (before after : List Call) (c : Call) →
+      batchCalls bytes ≡ before ++ c ∷ after → (perform g (run g t before .table) c .answer .number ≡ 0 → ⊥) →
+      batch g t bytes answers
+      ≡ batched 0
+      ((answerNumbers (run g t before .answers)
+      ++ perform g (run g t before .table) c .answer .number ∷ 0 ∷ 0 ∷ answerNumbers (run g (run g t before .table) after .answers))
+      ++ drop (length bytes / recordBytes * answerCells) answers)
+      (run g t (before ++ after) .table)
+  unfolding answerNumbers
+  batch-refused-record stated sound whole before after c e n =
+      let rest = drop (length bytes / recordBytes * answerCells) answers in
+      let u = run g t before .table in
+      let r = refused-among w t before after c n in
+      let o = refusal (perform g u c .answer .number) in
+      batch-is-singles stated sound whole
+      ∙ ap (λ (cs : List Call). batched 0 (answerNumbers (run g t cs .answers) ++ rest) (run g t cs .table)) e
+      ∙ ap₂ (λ (l : List Answer) (v : Tables). batched 0 (answerNumbers l ++ rest) v) (r .0) (r .1)
+      ∙ ap (λ (l : List ℕ). batched 0 (l ++ rest) (run g t (before ++ after) .table)) (numbers-app (run g t before .answers) (o ∷ run g u after .answers))

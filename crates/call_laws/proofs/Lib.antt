@@ -6,3 +6,4 @@ pub mod SingleLaws
 pub mod RunLaws
 pub mod BatchLaws
 pub mod HistoryLaws
+pub mod FreshCall

@@ -13,7 +13,7 @@ use Rattle.tables.specs.Cells.{Tables, asStated}
 use Rattle.sound.specs.Sound.{Sound}
 use Rattle.sound.specs.Decided.{sound}
 use Rattle.calls.specs.declared.Answer.{Answer}
-use Rattle.calls.specs.Outcome.{Outcome}
+use Rattle.calls.specs.Outcome.{Outcome, refusal}
 use Rattle.calls.specs.Calls.{allocate, allocateSound, freeSound}
 use Rattle.calls.specs.Run.{Call, allocation, release, malformed, perform, performSound, Ran, andThen, runBy, run, runSound}
 use Rattle.sound_calls.specs.Lent.{Lent}
@@ -22,7 +22,7 @@ use Rattle.call_laws.specs.Answers.{Refusal, Given, NamesOut, Returned}
 use Rattle.call_laws.specs.Runs.{Gives, Frees, callAt, answerAt, FreedBetween, FreedBefore, NeverTwice}
 use Rattle.call_laws.proofs.AllocationLaws.{allocate-sound-cases, given-out, given-was, given-kept}
 use Rattle.call_laws.proofs.FreeLaws.{free-sound-cases, returned-kept}
-use Rattle.call_laws.proofs.SingleLaws.{refusal-keeps, lent-here, allocate-cases, free-cases, perform-kept, perform-sound, perform-lent}
+use Rattle.call_laws.proofs.SingleLaws.{refusal-keeps, lent-here, allocate-cases, free-cases, perform-kept, perform-refusal, perform-sound, perform-lent}
 
 -- ---- one call on a lent table
 
@@ -178,3 +178,24 @@ pub run-then :
 unfolding runBy
 run-then does [] ds t = (refl, refl)
 run-then does (c ∷ cs) ds t = let r = run-then does cs ds (does t c .table) in (ap (λ (rest : List Answer). does t c .answer ∷ rest) (r .0), r .1)
+
+-- ---- a refused call among others
+
+module _ {g : Shape} (w : Served g) (t : Tables) where
+  -- A refused call of a list answers its number and zeros, and the calls after it do as if it had not been made.
+  pub refused-among :
+      (cs ds : List Call) (c : Call) → (perform g (run g t cs .table) c .answer .number ≡ 0 → ⊥) →
+      (run g t (cs ++ c ∷ ds) .answers
+      ≡ run g t cs .answers ++ refusal (perform g (run g t cs .table) c .answer .number) ∷ run g (run g t cs .table) ds .answers)
+      × (run g t (cs ++ c ∷ ds) .table ≡ run g t (cs ++ ds) .table)
+  unfolding runBy
+  refused-among cs ds c n =
+      let u = run g t cs .table in
+      let r = perform-refusal w u c n in
+      let a : perform g u c .answer ≡ refusal (perform g u c .answer .number) = ap (λ (o : Outcome). o .answer) (r .is) in
+      let k : perform g u c .table ≡ u = ap (λ (o : Outcome). o .table) (r .is) in
+      let here = run-then (perform g) cs (c ∷ ds) t in
+      let there = run-then (perform g) cs ds t in (
+        here .0 ∙ ap₂ (λ (b : Answer) (v : Tables). run g t cs .answers ++ b ∷ run g v ds .answers) a k,
+        here .1 ∙ ap (λ (v : Tables). run g v ds .table) k ∙ sym (there .1),
+      )

@@ -1,3 +1,3 @@
 pub mod Worked
 pub mod Written
-pub mod Frees
+pub mod Demand1
