@@ -14,6 +14,7 @@ pub mod Pigeonhole
 pub mod Powers
 pub mod Rising
 pub mod SomeLaws
+pub mod SumBounds
 pub mod SumLaws
 pub mod SumSteps
 pub mod TableLaws
