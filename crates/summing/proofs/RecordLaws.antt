@@ -67,7 +67,8 @@ record-long : (g : Shape) (t : Tables) (c : ℕ) → length (classRecord g t c) 
 unfolding classRecord summaryCells
 record-long g t c = refl
 
-records-long : (n c : ℕ) (g : Shape) (t : Tables) → length (classRecords n c g t) ≡ n * summaryCells
+-- As many cells as classes ask for.
+pub records-long : (n c : ℕ) (g : Shape) (t : Tables) → length (classRecords n c g t) ≡ n * summaryCells
 unfolding classRecords
 records-long zero c g t = omega arith
 records-long (suc n) c g t =
@@ -75,7 +76,7 @@ records-long (suc n) c g t =
     ∙ omega (arith, record-long g t c, records-long n (c + 1) g t, suc-mul n summaryCells)
 
 -- Cell f of record i.
-records-at :
+pub records-at :
     (n i c f : ℕ) (g : Shape) (t : Tables) → i < n → f < summaryCells →
     summaryAt (classRecords n c g t) i f ≡ getD (classRecord g t (c + i)) f 0
 unfolding classRecords summaryCell

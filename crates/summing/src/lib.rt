@@ -18,18 +18,18 @@ const COUNT: u64 = 4;
 
 const REMOTE_WORDS: u64 = 66;
 
-// The cells of a class's record.
+// How many cells a class's record has, and which they are.
 pub const SUMMARY_CELLS: u64 = 5;
 
-const SPANS: u64 = 0;
+pub const SPANS: u64 = 0;
 
-const SLOTS: u64 = 1;
+pub const SLOTS: u64 = 1;
 
-const USED: u64 = 2;
+pub const USED: u64 = 2;
 
-const CACHED: u64 = 3;
+pub const CACHED: u64 = 3;
 
-const PENDING: u64 = 4;
+pub const PENDING: u64 = 4;
 
 // Where cell f of the record of class c stands.
 fn summary_cell(c: u64, f: u64) -> u64
@@ -40,7 +40,7 @@ fn summary_cell(c: u64, f: u64) -> u64
 }
 
 // Cell f of the record of class c.
-fn cell(out: &[u64], c: u64, f: u64) -> u64
+pub fn cell(out: &[u64], c: u64, f: u64) -> u64
     requires { ⌜ summaryCell c f < length (now out) ⌝ }
     ensures { λ r. ⌜ r ≡ summaryAt (now (out .entry)) c f ⌝ }
 {

@@ -1,0 +1,3 @@
+pub mod FilledRecords
+pub mod NamedRecords
+pub mod SliceRow
