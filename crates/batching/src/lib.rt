@@ -2,7 +2,7 @@
 use calls::Answer;
 ghost use mathlib.Core.Path.{_≡_};
 ghost use mathlib.Core.List.{[], _∷_};
-ghost use Prim.Native.Nat.{ℕ, _+_, _*_, _≤_};
+ghost use Prim.Native.Nat.{ℕ, _+_, _*_, _/_, _<_, _≤_};
 ghost use lib.ListN.{length};
 ghost use lib.Seq.{sets};
 ghost use Rattle.class_lookup.specs.Lookup.{ClassTables};
@@ -10,7 +10,7 @@ ghost use Rattle.tables.specs.Shape.{shape};
 ghost use Rattle.tables.specs.Cells.{tables as table};
 ghost use Rattle.calls.specs.Outcome.{ended};
 ghost use Rattle.calls.specs.Run.{performSound};
-ghost use Rattle.calls.specs.Batch.{recordBytes, marked, recordCall, answerCells};
+ghost use Rattle.calls.specs.Batch.{recordBytes, marked, recordCall, answerCells, answered, batched, batchFrom};
 ghost use Rattle.sound_calls.specs.Lent.{Lent};
 ghost use Rattle.batching.specs.Kinds.{kindNumber};
 
@@ -134,4 +134,81 @@ fn put_answer(answers: &mut [u64], i: u64, answer: Answer)
 {
     let at = (i * ANSWER_CELLS) as usize;
     put_three(answers, at, answer.number, answer.span, answer.offset);
+}
+
+// Record i answered in its cells.
+fn answer_record(
+    sizes: &[u64],
+    lookup: &[u8; 8192],
+    heaps: u64,
+    spans: u64,
+    bits: &mut [u64],
+    records: &mut [u64],
+    entries: &mut [u64],
+    heads: &mut [u64],
+    used: &mut u64,
+    bytes: &[u8],
+    answers: &mut [u64],
+    i: u64,
+)
+    requires { ⌜ ClassTables (now sizes) (now lookup) ⌝ }
+    requires { ⌜ ((most : ℕ) × Lent (shape (now sizes) most heaps spans) (table (now bits) (now records) (now entries) (now heads) (now used))) ⌝ }
+    requires { ⌜ (i * recordBytes + recordBytes ≤ length (now bytes)) × (i * answerCells + answerCells ≤ length (now answers)) ⌝ }
+    ensures { λ _. ⌜ ((most : ℕ) → table (now (bits .exit)) (now (records .exit)) (now (entries .exit)) (now (heads .exit)) (now (used .exit)) ≡ performSound (shape (now (sizes .entry)) most heaps spans) (table (now (bits .entry)) (now (records .entry)) (now (entries .entry)) (now (heads .entry)) (now (used .entry))) (recordCall (now (bytes .entry)) (i * recordBytes)) .table) ⌝ }
+    ensures { λ _. ⌜ ((most : ℕ) → now (answers .exit) ≡ answered (now (answers .entry)) i (performSound (shape (now (sizes .entry)) most heaps spans) (table (now (bits .entry)) (now (records .entry)) (now (entries .entry)) (now (heads .entry)) (now (used .entry))) (recordCall (now (bytes .entry)) (i * recordBytes)))) ⌝ }
+{
+    let answer = perform_record(
+        sizes,
+        lookup,
+        heaps,
+        spans,
+        bits,
+        records,
+        entries,
+        heads,
+        used,
+        bytes,
+        i * RECORD_BYTES,
+    );
+    put_answer(answers, i, answer);
+}
+
+// Every record of a batch, in order.
+pub fn batch_sound(
+    sizes: &[u64],
+    lookup: &[u8; 8192],
+    heaps: u64,
+    spans: u64,
+    bits: &mut [u64],
+    records: &mut [u64],
+    entries: &mut [u64],
+    heads: &mut [u64],
+    used: &mut u64,
+    bytes: &[u8],
+    answers: &mut [u64],
+)
+    requires { ⌜ ClassTables (now sizes) (now lookup) ⌝ }
+    requires { ⌜ ((most : ℕ) × Lent (shape (now sizes) most heaps spans) (table (now bits) (now records) (now entries) (now heads) (now used))) ⌝ }
+    requires { ⌜ length (now bytes) / recordBytes * answerCells ≤ length (now answers) ⌝ }
+    ensures { λ _. ⌜ ((most : ℕ) → batched 0 (now (answers .exit)) (table (now (bits .exit)) (now (records .exit)) (now (entries .exit)) (now (heads .exit)) (now (used .exit))) ≡ batchFrom (length (now (bytes .entry)) / recordBytes) 0 (shape (now (sizes .entry)) most heaps spans) (table (now (bits .entry)) (now (records .entry)) (now (entries .entry)) (now (heads .entry)) (now (used .entry))) (now (bytes .entry)) (now (answers .entry))) ⌝ }
+{
+    let n = bytes.len() as u64 / RECORD_BYTES;
+    let mut i: u64 = 0;
+    while i < n {
+        answer_record(
+            sizes,
+            lookup,
+            heaps,
+            spans,
+            bits,
+            records,
+            entries,
+            heads,
+            used,
+            bytes,
+            answers,
+            i,
+        );
+        i += 1;
+    }
 }
