@@ -101,7 +101,6 @@ module _ {g : Shape} {t : Tables} (x : Lent g t) (heap size alignment : ℕ) (wo
       subst (λ (k : ClassHeap). a .slot < k .slots) (belongs-home g (inClass .table) heap class (inClass .answer .span) (a .belongs)) (a .comes .now .slot) in
       record {
         number = a .number;
-        class = class;
         slot = a .slot;
         smallest = m;
         belongs = a .belongs;
@@ -149,7 +148,7 @@ module _ {g : Shape} {t : Tables} (x : Lent g t) (heap size alignment : ℕ) (wo
 -- ---- the block that is given, by its span and its offset
 
 module _ {g : Shape} {t : Tables} {heap size alignment : ℕ} {words : List ℕ} {o : Outcome} (a : Given g t heap size alignment words o) where
-  given-size : slotSizeAt g (o .table) (o .answer .span) ≡ slotSize (g .sizes) (a .class)
+  given-size : slotSizeAt g (o .table) (o .answer .span) ≡ slotSize (g .sizes) (smallestClass (g .sizes) size alignment)
   unfolding classHeap
   given-size = ap (slotSize (g .sizes)) (a .belongs .class)
 

@@ -4,6 +4,7 @@ use mathlib.Core.Bool.{true}
 use mathlib.Core.List.{List}
 use Prim.Native.Nat.{ℕ, _+_, _/_, _<_, _≤_}
 use Rattle.size_classes.specs.SlotSizes.{slotSize}
+use Rattle.size_classes.specs.Class.{smallestClass}
 use Rattle.size_classes.proofs.ClassTheorems.{Smallest}
 use Rattle.size_classes.proofs.SlotTheorems.{Starts}
 use Rattle.tables.specs.Shape.{Shape, classHeap}
@@ -24,17 +25,16 @@ pub record Refusal (t : Tables) (o : Outcome) : Type 0 where
 -- what an accepted allocation gives
 pub record Given (g : Shape) (t : Tables) (heap size alignment : ℕ) (words : List ℕ) (o : Outcome) : Type 0 where
   pub number : o .answer .number ≡ 0
-  pub class : ℕ
   pub slot : ℕ
   -- "The class is the smallest whose slot is at least the size and a multiple of that alignment."
-  pub smallest : Smallest (g .sizes) size alignment class
+  pub smallest : Smallest (g .sizes) size alignment (smallestClass (g .sizes) size alignment)
   -- the block answered is of a used span of that heap and class, and starts a slot of it,
-  pub belongs : Belongs (o .table) (classHeap g heap class) (o .answer .span)
-  pub starts : Starts (slotSize (g .sizes) class) (o .answer .offset) slot
+  pub belongs : Belongs (o .table) (classHeap g heap (smallestClass (g .sizes) size alignment)) (o .answer .span)
+  pub starts : Starts (slotSize (g .sizes) (smallestClass (g .sizes) size alignment)) (o .answer .offset) slot
   -- was not out and is, and every other block is out exactly if it was
   pub comes : ComesOut g t (o .table) (o .answer .span) slot
   -- "Each claim uses one word, in order, and the draw uses the next."
-  pub used : o .answer .words ≡ refillFirst (g .spans) t (classHeap g heap class) words .words + 1
+  pub used : o .answer .words ≡ refillFirst (g .spans) t (classHeap g heap (smallestClass (g .sizes) size alignment)) words .words + 1
   pub few : o .answer .words ≤ wordsNeeded
 
 -- span s is used, a slot of it starts at the offset, and its block is out

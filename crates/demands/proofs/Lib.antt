@@ -1,3 +1,4 @@
 pub mod Worked
-pub mod Written
 pub mod Demand1
+pub mod Demand2
+pub mod OneAnswer

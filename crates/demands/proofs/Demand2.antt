@@ -1,18 +1,32 @@
--- Demand 2, its second sentence: "Class choice, bit deposit and slot division are proved against their written definitions." Assumes nothing.
+-- Demand 2. Its second sentence: "Class choice, bit deposit and slot division are proved against their written definitions."; and of its first what is said
+-- over the definitions alone: the words used, and a batch as its single calls. Assumes nothing.
 use mathlib.Core.Path.{_≡_, refl}
+use mathlib.Core.Bool.{true}
+use mathlib.Core.List.{List, _++_}
 use mathlib.Core.Logic.{_⊎_}
-use Prim.Native.Nat.{ℕ, _-_, _/_, _^_, _<_}
-use lib.ListN.{length}
+use Prim.Native.Nat.{ℕ, _+_, _-_, _*_, _/_, _^_, _<_, _≤_}
+use lib.ListN.{length, drop}
 use Rattle.size_classes.specs.declared.ClassFound.{ClassFound}
 use Rattle.size_classes.specs.declared.ClassFound.the-variants.{TooLarge}
 use Rattle.size_classes.specs.SlotSizes.{rising, groups, slotSizes, slotSize, lastSize}
-use Rattle.size_classes.specs.Class.{raised, classOf}
+use Rattle.size_classes.specs.Class.{raised, smallestClass, classOf}
 use Rattle.size_classes.specs.Slots.{spanLength, byReciprocal}
 use Rattle.size_classes.proofs.SlotSizeLaws.{slotSizes-admissible}
 use Rattle.size_classes.proofs.ClassTheorems.{Answer, answer, answer-is, too-large-exactly}
 use Rattle.size_classes.proofs.Reciprocal.{class-division}
 use Rattle.bits.specs.Deposit.{lowest, pdep}
 use Rattle.bits.proofs.DepositLaws.{lowest-is-pdep}
+use Rattle.tables.specs.Shape.{Shape, classHeap}
+use Rattle.tables.specs.Cells.{Tables, asStated}
+use Rattle.sound.specs.Sound.{Sound}
+use Rattle.calls.specs.Heap.{refillFirst}
+use Rattle.calls.specs.Calls.{wordsNeeded, allocate}
+use Rattle.calls.specs.Run.{run}
+use Rattle.calls.specs.Batch.{recordBytes, answerCells, batched, wholeRecords, batch}
+use Rattle.call_laws.specs.Served.{Served}
+use Rattle.call_laws.specs.Batches.{batchCalls, answerNumbers}
+use Rattle.call_laws.proofs.SingleLaws.{allocate-accepted}
+use Rattle.call_laws.proofs.BatchLaws.{batch-is-singles}
 
 -- 01's list ends in 131072.
 pub last-size : lastSize slotSizes ≡ 131072
@@ -46,3 +60,24 @@ pub slot-division :
     offset < spanLength (slotSize slotSizes k) →
     offset / slotSize slotSizes k ≡ byReciprocal (slotSize slotSizes k) offset
 slot-division = class-division slotSizes slotSizes-admissible
+
+-- ---- the words used, and batches
+
+module _ {g : Shape} (w : Served g) (t : Tables) where
+  -- "Each claim uses one word, in order, and the draw uses the next. The answer reports the number of words used.": one for each claim of the refill, and
+  -- one for the draw, and no more than must be lent.
+  pub words-used :
+      (heap size alignment : ℕ) (words : List ℕ) → allocate g t heap size alignment words .answer .number ≡ 0 →
+      (allocate g t heap size alignment words .answer .words
+      ≡ refillFirst (g .spans) t (classHeap g heap (smallestClass (g .sizes) size alignment)) words .words + 1)
+      × (allocate g t heap size alignment words .answer .words ≤ wordsNeeded)
+  words-used heap size alignment words z = let a = allocate-accepted w t heap size alignment words z .1 in (a .used, a .few)
+
+  -- "On a sound table a batch answers and changes cells as its well-formed records would as single calls, in order.", a malformed one as 9; "Cells past the
+  -- last answer stay."
+  pub batch-as-singles :
+      (bytes answers : List ℕ) → asStated g t ≡ true → Sound g t → wholeRecords bytes answers ≡ true →
+      batch g t bytes answers
+      ≡ batched 0 (answerNumbers (run g t (batchCalls bytes) .answers) ++ drop (length bytes / recordBytes * answerCells) answers)
+      (run g t (batchCalls bytes) .table)
+  batch-as-singles = batch-is-singles w t
