@@ -1,12 +1,12 @@
 -- Allocations by any caller: each is a refusal, which changes nothing, or gives a block that was not out; 6 is given exactly where the class of the
 -- heap is exhausted; and a sound table stays sound. Assumes nothing.
 use mathlib.Core.Path.{_≡_, refl, sym, ap, subst, _∙_}
-use mathlib.Core.Bool.{true, false, _&&_, cond}
+use mathlib.Core.Bool.{true}
 use mathlib.Core.List.{List}
 use mathlib.Core.Logic.{_⊎_, inl, inr, ⊎-elim}
-use Prim.Native.Nat.{ℕ, _+_, _*_, _/_, _^_, _<_, _≤_}
+use Prim.Native.Nat.{ℕ, _+_, _*_, _/_, _<_, _≤_}
 use native.Mathlib.Omega.{arith}
-use borrow.Author.Tests.{lt-ltb, ltb-true, le-leb, leb-true, eqb-false}
+use borrow.Author.Tests.{lt-ltb, ltb-true, le-leb, leb-true}
 use lib.ListN.{length, getD}
 use lib.Dec.{eqb, leb, ltb}
 use Rattle.laws.proofs.CondLaws.{cond-both}
@@ -14,19 +14,18 @@ use Rattle.laws.proofs.SomeLaws.{and-both}
 use Rattle.magazine_layout.specs.Layout.{mostCapacity}
 use Rattle.size_classes.specs.SlotSizes.{slotSize, lastSize, Admissible}
 use Rattle.size_classes.specs.Class.{raised, inRange, smallestClass}
-use Rattle.size_classes.specs.Slots.{mostSlots, slotsPerSpan}
+use Rattle.size_classes.specs.Slots.{slotsPerSpan}
 use Rattle.size_classes.proofs.ClassTheorems.{Smallest, smallest}
 use Rattle.size_classes.proofs.SlotTheorems.{Starts}
 use Rattle.tables.specs.declared.ClassHeap.{ClassHeap}
-use Rattle.tables.specs.Shape.{Shape, classes, classHeap}
-use Rattle.tables.specs.Cells.{Tables, asStated, countAt}
+use Rattle.tables.specs.Shape.{Shape, classHeap}
+use Rattle.tables.specs.Cells.{Tables, countAt}
 use Rattle.filled_magazines.proofs.FilledFacts.{belongs-home, capacity-within}
 use Rattle.heap.proofs.HeapLaws.{first-words}
 use Rattle.calls.specs.Outcome.{Outcome, refused}
 use Rattle.calls.specs.Heap.{granted, draw, refillFirst, allocSmall}
 use Rattle.calls.specs.Calls.{wordsNeeded, allocateSound, slotSizeAt}
-use Rattle.outs.specs.Outs.{IsOut}
-use Rattle.outs.specs.Allocated.{Dry, Allocated}
+use Rattle.outs.specs.Allocated.{Allocated}
 use Rattle.sound_calls.specs.Lent.{Lent}
 use Rattle.call_laws.specs.Exhausted.{Exhausted}
 use Rattle.call_laws.specs.Answers.{Refusal, Given, NamesOut}

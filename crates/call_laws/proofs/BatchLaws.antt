@@ -1,9 +1,9 @@
 -- A batch is its records as single calls, in order; a refused batch changes nothing; a refused record writes its own answer alone. Assumes nothing.
 use mathlib.Core.Path.{_≡_, refl, sym, ap, ap₂, subst, _∙_}
-use mathlib.Core.Bool.{true, false, _&&_, cond}
+use mathlib.Core.Bool.{true, false}
 use mathlib.Core.List.{List, [], _∷_, _++_}
 use mathlib.Core.Logic.{_⊎_, inl, inr, ⊎-elim}
-use Prim.Native.Nat.{ℕ, zero, suc, _+_, _*_, _/_, _%_, _^_, _<_, _≤_}
+use Prim.Native.Nat.{ℕ, zero, suc, _+_, _*_, _/_, _%_, _<_, _≤_}
 use native.Mathlib.Nat.{zero-add, zero-mul}
 use native.Mathlib.Omega.{arith}
 use borrow.Author.Tests.{leb-true}
@@ -24,7 +24,6 @@ use Rattle.calls.specs.Batch.{recordBytes, recordCall, Batched, batched, answer
 use Rattle.sound_calls.specs.Lent.{Lent}
 use Rattle.call_laws.specs.Served.{Served}
 use Rattle.call_laws.specs.Batches.{callsFrom, batchCalls, answerNumbers}
-use Rattle.call_laws.specs.Runs.{NeverTwice}
 use Rattle.call_laws.proofs.SingleLaws.{lent-here, lent-checked}
 use Rattle.call_laws.proofs.RunLaws.{run-lent, run-sound, refused-among}
 

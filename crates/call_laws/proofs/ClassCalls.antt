@@ -1,30 +1,25 @@
 -- Allocate and free in one class of one heap of a lent table: the table after it is lent again, and an allocation is refused exactly where the class
 -- of the heap is exhausted. Assumes nothing.
 use mathlib.Core.Path.{_≡_, refl, sym, ap, subst, _∙_}
-use mathlib.Core.Bool.{true, false, cond}
 use mathlib.Core.List.{List}
-use mathlib.Core.Logic.{_⊎_, inl, inr, ⊎-elim}
-use Prim.Native.Nat.{ℕ, _+_, _<_, _≤_}
-use native.Mathlib.Nat.{le-refl, lt-of-lt-of-le}
+use mathlib.Core.Logic.{_⊎_, ⊎-elim}
+use Prim.Native.Nat.{ℕ, _+_, _<_}
+use native.Mathlib.Nat.{le-refl}
 use native.Mathlib.Omega.{arith}
-use native.Mathlib.Decide.{decLt}
 use borrow.Author.Tests.{eqb-true, eqb-false, leb-false}
 use lib.ListN.{getD}
 use lib.Dec.{eqb}
 use Rattle.laws.proofs.CondLaws.{cond-both}
 use Rattle.tables.specs.declared.ClassHeap.{ClassHeap}
 use Rattle.tables.specs.Shape.{Shape, classes, classHeap}
-use Rattle.tables.specs.Cells.{Tables, classAt, ownerAt, countAt, entryAt, entryOf, entrySpan, entrySlot}
-use Rattle.magazine.specs.Magazine.{needsRefill, isFull, pushEntry, isCached}
+use Rattle.tables.specs.Cells.{Tables, classAt, ownerAt, countAt, entryOf}
+use Rattle.magazine.specs.Magazine.{needsRefill, isFull}
 use Rattle.magazine.proofs.CachedLaws.{cached-among}
-use Rattle.span.specs.declared.BlockState.the-variants.{Cached, Out}
-use Rattle.span.specs.State.{stateOf}
 use Rattle.span.specs.Span.{remoteFree}
 use Rattle.class_heap.specs.Steps.{refill, refilled, Refilled, flush}
 use Rattle.sound.specs.Sound.{homeOf, Belongs}
-use Rattle.sound.proofs.StateTests.{cached-no-out, cached-says}
-use Rattle.filled_magazines.proofs.FilledFacts.{belongs-home, span-belongs, filled-entry}
-use Rattle.filled_magazines.proofs.StateLaws.{entry-is-cached}
+use Rattle.sound.proofs.StateTests.{cached-says}
+use Rattle.filled_magazines.proofs.FilledFacts.{belongs-home, span-belongs}
 use Rattle.filled_magazines.proofs.MagazineSteps.{block-out-entry}
 use Rattle.placing.specs.Working.{Working}
 use Rattle.homes.specs.Homes.{Whole}

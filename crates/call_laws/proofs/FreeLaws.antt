@@ -1,13 +1,11 @@
 -- Frees by any caller: each is a refusal, which changes nothing, or brings back the block that it names, which was out; and a sound table stays sound.
 -- Assumes nothing.
 use mathlib.Core.Path.{_≡_, refl, sym, ap, ap₂, _∙_}
-use mathlib.Core.Bool.{true, cond}
 use mathlib.Core.Logic.{_⊎_, inl, inr}
 use Prim.Native.Nat.{ℕ, _*_, _/_, _<_}
 use native.Mathlib.Omega.{arith}
 use lib.Dec.{ltb}
 use Rattle.laws.proofs.CondLaws.{cond-both}
-use Rattle.size_classes.specs.SlotSizes.{slotSize}
 use Rattle.tables.specs.Shape.{Shape}
 use Rattle.tables.specs.Cells.{Tables}
 use Rattle.span.specs.State.{stateOf, isOut}

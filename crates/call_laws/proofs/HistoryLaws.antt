@@ -1,7 +1,7 @@
 -- Single calls and batches, one after the other, are one list of calls: a sound table stays sound, and no block that is out is handed out again before it
 -- is freed. Assumes nothing.
 use mathlib.Core.Path.{_≡_, refl, sym, ap, ap₂, subst, _∙_}
-use mathlib.Core.Bool.{true, false, cond}
+use mathlib.Core.Bool.{true, false}
 use mathlib.Core.List.{List, [], _∷_, _++_, map}
 use mathlib.Core.Logic.{_⊎_, inl, inr}
 use Prim.Native.Nat.{ℕ, _*_, _/_}
@@ -13,7 +13,7 @@ use Rattle.tables.specs.Cells.{Tables}
 use Rattle.calls.specs.declared.Answer.{Answer}
 use Rattle.calls.specs.Outcome.{Outcome, refusal}
 use Rattle.calls.specs.Run.{Call, allocation, release, malformed, perform, performSound, Ran, runBy, run, runSound}
-use Rattle.calls.specs.Batch.{recordBytes, Batched, answerCells, wholeRecords, batch}
+use Rattle.calls.specs.Batch.{recordBytes, Batched, answerCells, wholeRecords}
 use Rattle.sound_calls.specs.Lent.{Lent}
 use Rattle.call_laws.specs.Served.{Served}
 use Rattle.call_laws.specs.Runs.{Gives, Frees, callAt, answerAt, NeverTwice}

@@ -1,8 +1,8 @@
 -- The block that a span and an offset name: it is out as its slot is, and stays so while its slot does. Assumes nothing.
-use mathlib.Core.Path.{_≡_, refl, sym, ap, subst, _∙_}
-use mathlib.Core.Bool.{true, _&&_}
-use Prim.Native.Nat.{ℕ, _*_, _/_, _%_, _<_}
-use native.Mathlib.Nat.{div-add-mod', lt-of-lt-of-le, mul-mod-left, mul-div-cancel}
+use mathlib.Core.Path.{_≡_, refl, sym, subst}
+use mathlib.Core.Bool.{true}
+use Prim.Native.Nat.{ℕ, _/_, _%_, _<_}
+use native.Mathlib.Nat.{div-add-mod', mul-mod-left, mul-div-cancel}
 use native.Mathlib.Omega.{arith}
 use borrow.Author.Tests.{eq-eqb, eqb-true, lt-ltb, ltb-true}
 use lib.Dec.{eqb, ltb}
@@ -12,9 +12,7 @@ use Rattle.size_classes.specs.Slots.{slotsPerSpan, startsSlot}
 use Rattle.size_classes.proofs.SlotSizeLaws.{size-least}
 use Rattle.size_classes.proofs.SlotTheorems.{Starts}
 use Rattle.tables.specs.Shape.{Shape, classHeap}
-use Rattle.tables.specs.Cells.{Tables, classAt, ownerAt}
-use Rattle.span.specs.declared.BlockState.the-variants.{Out}
-use Rattle.span.specs.State.{stateOf}
+use Rattle.tables.specs.Cells.{Tables, classAt}
 use Rattle.sound.specs.Sound.{homeOf}
 use Rattle.calls.specs.Calls.{slotSizeAt, namesSlot}
 use Rattle.outs.specs.Outs.{IsOut, SameSpans}

@@ -1,6 +1,6 @@
 -- Lists of calls: a sound table stays sound, and no block that is out is handed out again before it is freed. Assumes nothing.
 use mathlib.Core.Path.{_≡_, refl, sym, ap, ap₂, subst, _∙_}
-use mathlib.Core.Bool.{Bool, true, false, true≢false}
+use mathlib.Core.Bool.{true≢false}
 use mathlib.Core.List.{List, [], _∷_, _++_}
 use mathlib.Core.Logic.{_⊎_, inl, inr, ⊎-elim}
 use Prim.Native.Nat.{ℕ, zero, suc, _<_}
@@ -14,11 +14,11 @@ use Rattle.sound.specs.Sound.{Sound}
 use Rattle.sound.specs.Decided.{sound}
 use Rattle.calls.specs.declared.Answer.{Answer}
 use Rattle.calls.specs.Outcome.{Outcome, refusal}
-use Rattle.calls.specs.Calls.{allocate, allocateSound, freeSound}
+use Rattle.calls.specs.Calls.{allocateSound, freeSound}
 use Rattle.calls.specs.Run.{Call, allocation, release, malformed, perform, performSound, Ran, andThen, runBy, run, runSound}
 use Rattle.sound_calls.specs.Lent.{Lent}
 use Rattle.call_laws.specs.Served.{Served}
-use Rattle.call_laws.specs.Answers.{Refusal, Given, NamesOut, Returned}
+use Rattle.call_laws.specs.Answers.{Refusal, NamesOut, Returned}
 use Rattle.call_laws.specs.Runs.{Gives, Frees, callAt, answerAt, FreedBetween, FreedBefore, NeverTwice}
 use Rattle.call_laws.proofs.AllocationLaws.{allocate-sound-cases, given-out, given-was, given-kept}
 use Rattle.call_laws.proofs.FreeLaws.{free-sound-cases, returned-kept}

@@ -1,18 +1,16 @@
 -- The single calls on any table: what they do on a sound one, or a refusal that changes nothing. A table after a call is the one before it, or sound.
 -- Assumes nothing.
-use mathlib.Core.Path.{_≡_, refl, sym, ap, _∙_}
-use mathlib.Core.Bool.{true, false, cond}
+use mathlib.Core.Path.{_≡_, refl, ap}
+use mathlib.Core.Bool.{true}
 use mathlib.Core.List.{List}
 use mathlib.Core.Logic.{_⊎_, inl, inr, ⊎-elim}
-use Prim.Native.Nat.{ℕ, _*_, _^_, _<_, _≤_}
-use native.Mathlib.Nat.{mul-le-mul-right}
+use Prim.Native.Nat.{ℕ, _<_, _≤_}
 use native.Mathlib.Omega.{arith}
 use borrow.Author.Tests.{leb-true}
 use lib.ListN.{length}
 use lib.Dec.{leb}
 use Rattle.laws.proofs.CondLaws.{cond-both}
 use Rattle.laws.proofs.SomeLaws.{and-both, and-four}
-use Rattle.size_classes.specs.SlotSizes.{slotSizes}
 use Rattle.size_classes.specs.Class.{inRange, smallestClass}
 use Rattle.size_classes.specs.Slots.{mostSlots}
 use Rattle.size_classes.proofs.SlotSizeLaws.{slotSizes-admissible}

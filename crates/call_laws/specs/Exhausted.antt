@@ -1,5 +1,4 @@
 -- When refusal 6 is given. Assumes nothing.
-use mathlib.Core.Path.{_≡_}
 use Prim.Native.Nat.{ℕ, _<_, _≤_}
 use Rattle.tables.specs.Shape.{Shape, classHeap}
 use Rattle.tables.specs.Cells.{Tables}

@@ -1,7 +1,7 @@
 -- Which shapes the calls serve. Assumes nothing.
 use mathlib.Core.Path.{_≡_}
 use mathlib.Core.Bool.{true}
-use Prim.Native.Nat.{ℕ, _*_, _^_, _≤_}
+use Prim.Native.Nat.{_*_, _^_, _≤_}
 use Rattle.size_classes.specs.SlotSizes.{Admissible}
 use Rattle.size_classes.specs.Slots.{mostSlots}
 use Rattle.tables.specs.Shape.{Shape}

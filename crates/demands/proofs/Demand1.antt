@@ -1,8 +1,8 @@
 -- Demand 1, sentence by sentence, over the definitions that the public contracts cite. "Every input has an answer.": each definition is a function of every
 -- input, and no theorem on refusals below asks anything of the tables. What is asked of the shape (`Served`) holds of 01's list and limits for any number
 -- of heaps and spans: `base-served`. Assumes nothing.
-use mathlib.Core.Path.{_≡_, refl, sym, ap, _∙_}
-use mathlib.Core.Bool.{Bool, true, false, _&&_}
+use mathlib.Core.Path.{_≡_, refl, ap, _∙_}
+use mathlib.Core.Bool.{true, false, _&&_}
 use mathlib.Core.List.{List, _∷_, _++_}
 use mathlib.Core.Logic.{_⊎_, inl, inr, ⊎-elim}
 use Prim.Native.Nat.{ℕ, suc, _*_, _/_, _<_, _≤_}
