@@ -1,0 +1,2 @@
+pub mod PairsLaws
+pub mod RowTests
