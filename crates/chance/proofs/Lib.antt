@@ -1,2 +1,3 @@
 pub mod PairsLaws
 pub mod RowTests
+pub mod CachedCounts
