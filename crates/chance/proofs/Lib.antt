@@ -1,3 +1,4 @@
 pub mod PairsLaws
 pub mod RowTests
 pub mod CachedCounts
+pub mod ModelLaws
