@@ -2,3 +2,4 @@ pub mod PairsLaws
 pub mod RowTests
 pub mod CachedCounts
 pub mod ModelLaws
+pub mod RefillCounts
