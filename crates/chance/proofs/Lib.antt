@@ -3,3 +3,4 @@ pub mod RowTests
 pub mod CachedCounts
 pub mod ModelLaws
 pub mod RefillCounts
+pub mod OtherCounts
