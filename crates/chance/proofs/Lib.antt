@@ -4,3 +4,4 @@ pub mod CachedCounts
 pub mod ModelLaws
 pub mod RefillCounts
 pub mod OtherCounts
+pub mod RowSteps

@@ -71,6 +71,11 @@ pub passing-next : (n : ℕ) (f : ℕ → Bool) → passing (n + 1) f ≡ passin
 unfolding passing
 passing-next n f = sum-next n _
 
+-- Numbers past a bound that do not pass add nothing.
+pub passing-longer : (l n : ℕ) (f : ℕ → Bool) → l ≤ n → ((i : ℕ) → l ≤ i → i < n → f i ≡ false) → passing n f ≡ passing l f
+unfolding passing
+passing-longer l n f h e = sum-longer l n _ h (λ i a b. ap one (e i a b))
+
 -- No more pass than there are.
 passing-most : (n : ℕ) (f : ℕ → Bool) → passing n f ≤ n
 unfolding passing

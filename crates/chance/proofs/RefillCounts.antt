@@ -6,6 +6,7 @@ use mathlib.Core.List.{List}
 use mathlib.Core.Logic.{_⊎_, inl, inr, ⊎-elim}
 use Prim.Native.Nat.{ℕ, zero, suc, _+_, _-_, _*_, _^_, _<_, _≤_}
 use native.Mathlib.Nat.{le-refl}
+use native.Mathlib.Decide.{ℕ-discrete}
 use native.Mathlib.Omega.{arith}
 use borrow.Author.Tests.{eqb-true, eqb-false, ltb-true, ltb-false}
 use lib.Dec.{ltb}
@@ -162,6 +163,7 @@ module _ (g : Shape) (h c : ℕ) (hh : h < g .heaps) (hc : c < classes g) where
       -- how a refill ends
       record Ends (t u : Tables) : Type 0 where
         end : (k .capacity ≤ countAt u k) ⊎ Dry limit u k
+        own : (s : ℕ) → t .used ≤ s → s < u .used → Belongs u k s
         grew : Kept (rowIn g t h c) (t .used) (rowIn g u h c) (u .used) ⊎ Grown limit k (rowIn g t h c) (t .used) (rowIn g u h c) (u .used)
 
       -- no span more
@@ -169,7 +171,7 @@ module _ (g : Shape) (h c : ℕ) (hh : h < g .heaps) (hc : c < classes g) where
       kept-so a e = record { used = e; spans = same-spans g h c (a .spans) e }
 
       ends-same : {t : Tables} → (k .capacity ≤ countAt t k) ⊎ Dry limit t k → Ends t t
-      ends-same {t} e = record { end = e; grew = inl (kept-so (same-outs g t) refl) }
+      ends-same {t} e = record { end = e; own = λ s l m. absurd (let w : ⊥ = omega arith in w); grew = inl (kept-so (same-outs g t) refl) }
 
       -- after a turn that makes no span
       ends-then : {t v u : Tables} → SameOuts g t v → v .used ≡ t .used → Ends v u → Ends t u
@@ -178,6 +180,7 @@ module _ (g : Shape) (h c : ℕ) (hh : h < g .heaps) (hc : c < classes g) where
           let q = same-out g h c a in
           record {
             end = z .end;
+            own = λ s l m. z .own s (omega (arith, l, e)) m;
             grew =
                 ⊎-elim (λ x. inl (record { used = x .used ∙ e; spans = x .spans ∙ s }))
                 (λ x.
@@ -231,6 +234,12 @@ module _ (g : Shape) (h c : ℕ) (hh : h < g .heaps) (hc : c < classes g) where
           (λ x.
           record {
             end = z .end;
+            own =
+                λ s l m.
+                elim (ℕ-discrete (t .used) s) [
+                  | yes y ↦ subst (Belongs (rest .table) k) y (spans-belongs (spans-then (f .spans) (b .spans)) (x .belongs))
+                  | no y ↦ z .own s (omega (arith, l, y, q .used, x .used)) m
+                ];
             grew =
                 ⊎-elim
                 (λ y. inr (grown-so o l x (spans-then (f .spans) (b .spans)) (same-outs-then a b) (y .used ∙ q .used ∙ x .used)))
@@ -255,6 +264,10 @@ module _ (g : Shape) (h c : ℕ) (hh : h < g .heaps) (hc : c < classes g) where
         -- the table is whole,
         pub refilled-whole : Whole g last
         refilled-whole = refill-whole hh hc limit few (k .capacity) o ws 0
+
+        -- each span that it made is of the class and heap,
+        pub refilled-new : (s : ℕ) → t .used ≤ s → s < last .used → Belongs last k s
+        refilled-new = refill-ends (k .capacity) o (omega arith) ws 0 .own
 
         -- and its row and the spans used are the model's.
         pub refilled-row : stock (rowIn g last h c) (last .used) ≡ refillCount limit k (rowIn g t h c) (t .used)

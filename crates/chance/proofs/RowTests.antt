@@ -22,7 +22,7 @@ use Rattle.outs.specs.Outs.{IsOut, SameSpans, SameOuts, ComesOut, GoesBack}
 use Rattle.sound_calls.proofs.FreeTests.{out-state}
 use Rattle.chance.specs.Pairs.{passing, pairs}
 use Rattle.chance.specs.Chance.{isOf, rowIn}
-use Rattle.chance.proofs.PairsLaws.{one, passing-same, passing-next, pairs-same, pairs-more, pairs-longer}
+use Rattle.chance.proofs.PairsLaws.{one, passing-same, passing-next, passing-longer, pairs-same, pairs-more, pairs-longer}
 
 -- Two tests of which each passes where the other does.
 pub tests-agree : (a b : Bool) → (a ≡ true → b ≡ true) → (b ≡ true → a ≡ true) → a ≡ b
@@ -111,12 +111,17 @@ module _ (g : Shape) (h c : ℕ) where
 
     -- ---- the spans
 
-    -- As many spans are of it, where no span was created,
-    pub same-spans : u .used ≡ t .used → rowIn g u h c .spans ≡ rowIn g t h c .spans
+    -- As many spans are of it where none of them was created,
+    pub other-spans : ((s : ℕ) → t .used ≤ s → Belongs u k s → ⊥) → rowIn g u h c .spans ≡ rowIn g t h c .spans
     unfolding rowIn
-    same-spans e = ap (λ (n : ℕ). passing n (isOf u k)) e ∙ passing-same (t .used) (isOf u k) (isOf t k) still-of
+    other-spans n =
+        passing-longer (t .used) (u .used) (isOf u k) (a .used) (λ s l m. test-fails (isOf u k s) (λ e. n s l (passes-belongs m e)))
+        ∙ passing-same (t .used) (isOf u k) (isOf t k) still-of
 
-    -- and where one was, one more if it is of it, else as many.
+    pub same-spans : u .used ≡ t .used → rowIn g u h c .spans ≡ rowIn g t h c .spans
+    same-spans e = other-spans (λ s l b. omega (arith, e, l, b .used))
+
+    -- and where one span was created, one more if it is of it.
     pub one-span : u .used ≡ t .used + 1 → rowIn g u h c .spans ≡ rowIn g t h c .spans + one (isOf u k (t .used))
     unfolding rowIn
     one-span e =
