@@ -5,3 +5,4 @@ pub mod ModelLaws
 pub mod RefillCounts
 pub mod OtherCounts
 pub mod RowSteps
+pub mod CallAnswers
