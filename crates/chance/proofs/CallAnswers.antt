@@ -57,7 +57,7 @@ pub class-found : (g : Shape) (t : Tables) → Whole g t → (size alignment : �
 class-found g t o size alignment e =
     found-class (g .sizes) (o .near .filled .sizes) size alignment (smallestClass (g .sizes) size alignment) (unfold classOf in rw e)
 
-module _ {g : Shape} {t : Tables} (small : g .spans * mostSlots ≤ 2 ^ 64) (o : Whole g t) where
+module _ (g : Shape) {t : Tables} (small : g .spans * mostSlots ≤ 2 ^ 64) (o : Whole g t) where
   -- ---- neither 1 nor 2
 
   guard-passes : (x : Outcome) → guarded g t x ≡ x

@@ -6,3 +6,5 @@ pub mod RefillCounts
 pub mod OtherCounts
 pub mod RowSteps
 pub mod CallAnswers
+pub mod Follows
+pub mod FollowsAllocate
