@@ -8,3 +8,4 @@ pub mod RowSteps
 pub mod CallAnswers
 pub mod Follows
 pub mod FollowsAllocate
+pub mod ChanceLaws

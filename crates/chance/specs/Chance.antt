@@ -15,7 +15,7 @@ use Rattle.span.specs.State.{isOut}
 use Rattle.calls.specs.Outcome.{Outcome}
 use Rattle.calls.specs.Calls.{allocate, free}
 use Rattle.chance.specs.Pairs.{passing, pairs}
-use Rattle.chance.specs.Counts.{Row, row}
+use Rattle.chance.specs.Counts.{Row, row, Counts, Counted, allocateCount, freeCount}
 
 -- ---- what is counted
 
@@ -113,3 +113,10 @@ Alike g s u (r ∷ rs) v w =
 -- as many words are lent to each call of the list
 abbrev pub SameWords : List Request → (ℕ → List ℕ) → (ℕ → List ℕ) → Type 0
 SameWords rs v w = (i : ℕ) → i < length rs → length (v i) ≡ length (w i)
+
+-- ---- the model's call
+
+-- the same request, with so many words lent, on counts alone
+unfoldable pub countStep : Shape → Counts → Request → ℕ → Counted
+countStep g m (allocating heap size alignment) lent = allocateCount g m heap size alignment lent
+countStep g m (freeing heap n) lent = freeCount g m heap n
