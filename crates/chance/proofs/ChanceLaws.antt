@@ -22,7 +22,7 @@ use Rattle.homes.specs.Homes.{Whole}
 use Rattle.homes.proofs.SoundWhole.{sound-whole}
 use Rattle.chance.specs.Pairs.{passing, pairs}
 use Rattle.chance.specs.Counts.{Counts, noCounts}
-use Rattle.chance.specs.Chance.{rowIn, Request, allocating, freeing, State, begin, step, Names, Allowed, Ruled, Same, Alike, SameWords, countStep}
+use Rattle.chance.specs.Chance.{rowIn, Request, allocating, freeing, neither, State, begin, step, Names, Allowed, Ruled, Same, Alike, SameWords, countStep}
 use Rattle.chance.proofs.ModelLaws.{same-row}
 use Rattle.chance.proofs.Follows.{Live, Follows, Fits, free-fits}
 use Rattle.chance.proofs.FollowsAllocate.{allocate-fits}
@@ -83,12 +83,14 @@ module _ (g : Shape) (small : g .spans * mostSlots ≤ 2 ^ 64) where
   unfolding step countStep
   follow s m f (allocating heap size alignment) allowed ws = allocate-fits g small s m f heap size alignment ws
   follow s m f (freeing heap n) allowed ws = free-fits g small s m f heap n allowed
+  follow s m f neither allowed ws = record { number = refl; follows = f }
 
   -- ---- two runs
 
   -- What is allowed in a state is allowed in another with the same counts.
   same-allowed : (s u : State) (m : Counts) → Follows g s m → Follows g u m → (r : Request) → Allowed g s r → Allowed g u r
   same-allowed s u m f e (allocating heap size alignment) a = tt
+  same-allowed s u m f e neither a = tt
   same-allowed s u m f e (freeing heap n) a =
       record {
         earlier = omega (arith, a .earlier, f .made, e .made);

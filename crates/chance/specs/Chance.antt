@@ -13,9 +13,9 @@ use Rattle.tables.specs.Shape.{Shape, classes, classHeap}
 use Rattle.tables.specs.Cells.{Tables, freshTables, classAt, ownerAt, countAt}
 use Rattle.span.specs.State.{isOut}
 use Rattle.calls.specs.Outcome.{Outcome}
-use Rattle.calls.specs.Calls.{allocate, free}
+use Rattle.calls.specs.Run.{Call, allocation, release, malformed, perform}
 use Rattle.chance.specs.Pairs.{passing, pairs}
-use Rattle.chance.specs.Counts.{Row, row, Counts, Counted, allocateCount, freeCount}
+use Rattle.chance.specs.Counts.{Row, row, Counts, Counted, counted, allocateCount, freeCount}
 
 -- ---- what is counted
 
@@ -32,10 +32,11 @@ rowIn g t h c =
 
 -- ---- the calls of a list, and what they leave
 
--- an allocation, and a free of the block that accepted allocation n gave, counted from 0
+-- an allocation; a free of the block that accepted allocation n gave, counted from 0; a record of a batch that is neither
 pub data Request : Type 0 where
   allocating : (heap size alignment : ℕ) → Request
   freeing : (heap n : ℕ) → Request
+  neither : Request
 
 -- a block, by its span and offset
 pub record Place : Type 0 where
@@ -77,10 +78,21 @@ allocated s o =
 unfoldable pub released : State → ℕ → Outcome → After
 released s n o = after (o .answer .number) (state (o .table) (s .given) (cond (eqb (o .answer .number) 0) (n ∷ s .freed) (s .freed)))
 
--- one call, with the words lent
+-- the call that a request is in a state, with the words lent
+abbrev pub callOf : State → Request → List ℕ → Call
+callOf s (allocating heap size alignment) ws = allocation heap size alignment ws
+callOf s (freeing heap n) ws = release heap (givenAt s n .span) (givenAt s n .offset)
+callOf s neither ws = malformed
+
+-- what its outcome leaves
+abbrev pub leaves : State → Request → Outcome → After
+leaves s (allocating heap size alignment) o = allocated s o
+leaves s (freeing heap n) o = released s n o
+leaves s neither o = after (o .answer .number) (state (o .table) (s .given) (s .freed))
+
+-- one call
 unfoldable pub step : Shape → State → Request → List ℕ → After
-step g s (allocating heap size alignment) ws = allocated s (allocate g (s .table) heap size alignment ws)
-step g s (freeing heap n) ws = released s n (free g (s .table) heap (givenAt s n .span) (givenAt s n .offset))
+step g s r ws = leaves s r (perform g (s .table) (callOf s r ws))
 
 -- ---- the rule, and the demand
 
@@ -92,6 +104,7 @@ pub record Names (g : Shape) (s : State) (heap n : ℕ) : Type 0 where
 abbrev pub Allowed : Shape → State → Request → Type 0
 Allowed g s (allocating heap size alignment) = Unit
 Allowed g s (freeing heap n) = Names g s heap n
+Allowed g s neither = Unit
 
 -- each call of the list is allowed when it comes; call i is lent the words ws i
 abbrev pub Ruled : Shape → State → List Request → (ℕ → List ℕ) → Type 0
@@ -120,3 +133,4 @@ SameWords rs v w = (i : ℕ) → i < length rs → length (v i) ≡ length (w i)
 unfoldable pub countStep : Shape → Counts → Request → ℕ → Counted
 countStep g m (allocating heap size alignment) lent = allocateCount g m heap size alignment lent
 countStep g m (freeing heap n) lent = freeCount g m heap n
+countStep g m neither lent = counted 9 m
