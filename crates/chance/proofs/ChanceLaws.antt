@@ -30,7 +30,7 @@ use Rattle.chance.proofs.FollowsAllocate.{allocate-fits}
 -- ---- a fresh table
 
 -- It is as stated where the lent one is.
-fresh-stated : (g : Shape) (t : Tables) → asStated g t ≡ true → asStated g (freshTables t) ≡ true
+pub fresh-stated : (g : Shape) (t : Tables) → asStated g t ≡ true → asStated g (freshTables t) ≡ true
 unfolding freshTables
 fresh-stated g t e =
     let x = stated-passed g t e in
@@ -63,7 +63,7 @@ fresh-count g t h c hh hc =
 
 module _ (g : Shape) (small : g .spans * mostSlots ≤ 2 ^ 64) where
   -- It has the model's counts.
-  fresh-follows : (t : Tables) → Admissible (g .sizes) → asStated g t ≡ true → Follows g (begin t) noCounts
+  pub fresh-follows : (t : Tables) → Admissible (g .sizes) → asStated g t ≡ true → Follows g (begin t) noCounts
   unfolding rowIn passing pairs sum freshTables
   fresh-follows t sizes stated =
       record {
@@ -88,7 +88,7 @@ module _ (g : Shape) (small : g .spans * mostSlots ≤ 2 ^ 64) where
   -- ---- two runs
 
   -- What is allowed in a state is allowed in another with the same counts.
-  same-allowed : (s u : State) (m : Counts) → Follows g s m → Follows g u m → (r : Request) → Allowed g s r → Allowed g u r
+  pub same-allowed : (s u : State) (m : Counts) → Follows g s m → Follows g u m → (r : Request) → Allowed g s r → Allowed g u r
   same-allowed s u m f e (allocating heap size alignment) a = tt
   same-allowed s u m f e neither a = tt
   same-allowed s u m f e (freeing heap n) a =
@@ -119,6 +119,11 @@ pub chance-any :
 chance-any g sizes small t u a b rs v w n r =
     runs-alike g small rs (begin t) (begin u) noCounts v w (fresh-follows g small t sizes a) (fresh-follows g small u sizes b) n r
 
+-- In a table of 01's limit each block has an entry that is a number of 64 bits.
+pub base-few : (heaps spans : ℕ) (t : Tables) → asStated (baseShape heaps spans) t ≡ true → spans * mostSlots ≤ 2 ^ 64
+unfolding mostSlots mostSpans
+base-few heaps spans t e = omega (arith, stated-passed (baseShape heaps spans) t e .shape .fewSpans)
+
 -- Demand 3: one list of calls, run from two fresh tables of one size with two families of words, equally many at each call, meets at each call the same
 -- acceptance or refusal number, and leaves each heap and class equally many cached blocks, blocks out and spans.
 pub chance :
@@ -126,6 +131,4 @@ pub chance :
     (rs : List Request) (v w : ℕ → List ℕ) → SameWords rs v w → Ruled (baseShape heaps spans) (begin t) rs v →
     Alike (baseShape heaps spans) (begin t) (begin u) rs v w
 chance heaps spans t u a b rs v w n r =
-    let g = baseShape heaps spans in
-    let few : spans * mostSlots ≤ 2 ^ 64 = unfold mostSlots mostSpans in omega (arith, stated-passed g t a .shape .fewSpans) in
-    chance-any g slotSizes-admissible few t u a b rs v w n r
+    chance-any (baseShape heaps spans) slotSizes-admissible (base-few heaps spans t a) t u a b rs v w n r

@@ -9,3 +9,4 @@ pub mod CallAnswers
 pub mod Follows
 pub mod FollowsAllocate
 pub mod ChanceLaws
+pub mod BatchLaws

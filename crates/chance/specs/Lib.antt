@@ -1,3 +1,4 @@
 pub mod Pairs
 pub mod Counts
 pub mod Chance
+pub mod ChanceBatch
