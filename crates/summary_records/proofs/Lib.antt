@@ -1,3 +1,4 @@
+pub mod CountedLaws
 pub mod FilledRecords
 pub mod NamedRecords
 pub mod SliceRow

@@ -1,19 +1,18 @@
 -- The structs of a table's flat records hold what their names say. Assumes nothing.
 use mathlib.Core.Path.{_≡_, refl, ap, ap₂, _∙_}
 use mathlib.Core.List.{List, _∷_}
-use Prim.Native.Nat.{ℕ, zero, suc, _+_, _*_, _<_, _≤_}
+use Prim.Native.Nat.{ℕ, zero, suc, _+_, _<_, _≤_}
 use native.Mathlib.Nat.{zero-add}
 use native.Mathlib.Omega.{arith}
-use borrow.Author.Tests.{eq-eqb, lt-ltb}
-use lib.ListN.{length, getD}
+use lib.ListN.{getD}
 use Rattle.tables.specs.Shape.{Shape, classes}
 use Rattle.tables.specs.Cells.{Tables}
-use Rattle.calls.specs.Summary.{classRecord, summaryCells, classRecords}
+use Rattle.calls.specs.Summary.{classRecord, classRecords}
 use Rattle.summing.specs.Tally.{spansCell, slotsCell, usedCell, cachedCell, pendingCell, summaryAt}
 use Rattle.summing.proofs.ColumnLaws.{name-in}
-use Rattle.summing.proofs.RecordLaws.{records-long, records-at}
+use Rattle.summing.proofs.RecordLaws.{records-at}
 use Rattle.summary_records.specs.declared.ClassRecord.{ClassRecord}
-use Rattle.summary_records.specs.Structured.{recordAt, recordsFrom, structured, structuredFrom, classStruct, classStructs}
+use Rattle.summary_records.specs.Structured.{recordAt, recordsFrom, classStruct, classStructs}
 
 module _ (g : Shape) (t : Tables) where
   -- The struct of one class.
@@ -38,15 +37,6 @@ module _ (g : Shape) (t : Tables) where
   structs-from n (suc k) c h =
       ap₂ (λ (r : ClassRecord) (l : List ClassRecord). r ∷ l) (class-struct n c (omega arith)) (structs-from n k (c + 1) (omega arith))
 
-  -- From the flat summary of a table, as many structs as classes become those of the table, and the answer is 0.
-  pub summary-structs :
-      (out : List ClassRecord) → 0 < classes g → length out ≡ classes g →
-      structuredFrom (classRecords (classes g) 0 g t) out ≡ structured 0 (classStructs (classes g) 0 g t)
-  unfolding structuredFrom
-  summary-structs out some l =
-      rw (
-        l,
-        lt-ltb 0 (classes g) some,
-        eq-eqb (length (classRecords (classes g) 0 g t)) (classes g * summaryCells) (records-long (classes g) 0 g t),
-      )
-      (ap (λ (z : List ClassRecord). structured 0 z) (structs-from (classes g) (classes g) 0 (omega arith)))
+  -- The structs of all classes.
+  pub table-structs : recordsFrom (classes g) 0 (classRecords (classes g) 0 g t) ≡ classStructs (classes g) 0 g t
+  table-structs = structs-from (classes g) (classes g) 0 (omega arith)
