@@ -90,12 +90,13 @@ module _ (heaps spans : ℕ) (t : Tables) where
   unfolding countedTurns
   turns-refused n h = rw (ne-eqb n 0 (λ e. let z : ⊥ = omega arith in z))
 
-  -- No more are written than are lent, and their numbers are there.
+  -- No more are written than are lent.
   pub counted-within : (lent : ℕ) → countedTurns (countedOf g t lent) ≤ lent
   counted-within lent =
       counted-cases (λ s. countedTurns s ≤ lent) lent (λ e a s. omega (arith, turns-made, e)) (λ e a s. omega (arith, turns-refused 2 (omega arith)))
       (λ e. omega (arith, turns-refused 1 (omega arith)))
 
+  -- The numbers of a record that is written are there.
   pub counted-there : (lent i : ℕ) → i < countedTurns (countedOf g t lent) → summaryCell i pendingCell < length (countedOf g t lent .cells)
   counted-there lent i =
       counted-cases (λ s. i < countedTurns s → summaryCell i pendingCell < length (s .cells)) lent
@@ -105,7 +106,6 @@ module _ (heaps spans : ℕ) (t : Tables) where
       (λ e a s h. absurd (let z : ⊥ = omega (arith, h, turns-refused 2 (omega arith)) in z))
       (λ e h. absurd (let z : ⊥ = omega (arith, h, turns-refused 1 (omega arith)) in z))
 
-  -- The number and the records that are left are those of the definition.
   module _ (out : List ClassRecord) where
     given : length out ≡ baseClasses → asStated g t ≡ true → isSound g t ≡ true → summaryStructs g t out ≡ structured 0 (classStructs (classes g) 0 g t)
     unfolding summaryStructs
@@ -121,6 +121,7 @@ module _ (heaps spans : ℕ) (t : Tables) where
         let q : asStated g t && eqb (length out) (classes g) ≡ false = ap (λ (z : ℕ). asStated g t && eqb (length out) z) (base-classes heaps spans) ∙ e in
         rw q
 
+    -- The number and the records that are left are those of the definition.
     pub counted-structs :
         structured (countedOf g t (length out) .number) (filled (countedOf g t (length out) .cells) out (countedTurns (countedOf g t (length out)))) ≡
         summaryStructs g t out

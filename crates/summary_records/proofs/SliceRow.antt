@@ -11,19 +11,21 @@ use Rattle.summary_records.specs.declared.ClassRecord.{ClassRecord}
 use Rattle.summary_records.proofs.ClassRecord as TR
 use Rattle.summary_records.proofs.ClassRecord.Laws as T′
 
+-- a record's type, and its machine values
 abbrev pub R : RattleType
 R = TR.the-row
 
 abbrev pub vals : ClassRecord → List Val
 vals = LL.vals TR.the-type T′.the-laws
 
--- The byte offset of record i fits, and so does the number after it.
+-- The byte offset of record i fits.
 pub byte-fits : (n i : ℕ) → Room R n → i < n → i * 40 < 2 ^ 64
 byte-fits n i room within = below (room .1)
   where
     below : n * 40 < 2 ^ 63 → i * 40 < 2 ^ 64
     below h = omega (arith, h, within)
 
+-- And so does the number after i.
 pub few : (n i : ℕ) → Room R n → i < n → i < 2 ^ 58
 few n i room within = below (room .1)
   where

@@ -55,6 +55,7 @@ module _ {n : ℕ} {out : List ℕ} {f : ℕ} {g : ℕ → ℕ} (hf : f ≤ pend
   pub column-other : {h : ℕ} (k v : ℕ) → h ≤ pendingCell → (f ≡ h → ⊥) → Column n (set out (summaryCell k h) v) f g
   column-other k v hh ne = record { at = λ c l. other-cell out c k v hf hh ne ∙ o .at c l }
 
+  -- And where another is added to.
   pub column-rest : {h : ℕ} (k v : ℕ) → h ≤ pendingCell → (f ≡ h → ⊥) → Column n (added out k h v) f g
   column-rest k v hh ne = record { at = λ c l. other-added out c k v hf hh ne ∙ o .at c l }
 

@@ -18,10 +18,11 @@ module _ {bits spans : List ℕ} {s : ℕ} {out : List ℕ} (o : SpanFits bits s
   abbrev own : ℕ
   own = classOf spans s
 
-  -- There is room for each number in its turn.
+  -- There is room for one span more.
   pub fits-spans : {c : ℕ} → c ≡ own → (summaryCell c spansCell < length out) × (summaryAt out c spansCell + 1 < 2 ^ 64)
   fits-spans e = rw e (o .there spansCell (name-in (omega arith)), o .spansFit)
 
+  -- Then for its occupied slots.
   pub fits-used :
       {c n : ℕ} {out₁ : List ℕ} → c ≡ own → n ≡ occupiedOf spans s → out₁ ≡ added out c spansCell 1 →
       (summaryCell c usedCell < length out₁) × (summaryAt out₁ c usedCell + n < 2 ^ 64)
@@ -35,6 +36,7 @@ module _ {bits spans : List ℕ} {s : ℕ} {out : List ℕ} (o : SpanFits bits s
       )
       (o .there usedCell (name-in (omega arith)), o .usedFit)
 
+  -- Then for its pending slots.
   pub fits-pending :
       (n : ℕ) {c k : ℕ} {out₁ out₂ : List ℕ} → c ≡ own → k ≡ pendingIn bits s 64 → out₁ ≡ added out c spansCell 1 → out₂ ≡ added out₁ c usedCell n →
       (summaryCell c pendingCell < length out₂) × (summaryAt out₂ c pendingCell + k < 2 ^ 64)
@@ -61,10 +63,11 @@ span-is-added bits spans s out e en ek e₁ e₂ e₃ = e₃ ∙ rw (e₂, e₁,
 -- ---- one class
 
 module _ {sizes heads : List ℕ} {heaps c : ℕ} {out : List ℕ} (o : ClassFits sizes heads heaps c out) where
-  -- A cell of the class's record is among the records, before and after a store.
+  -- A cell of the class's record is among the records.
   pub class-cell : {f : ℕ} → f ≤ pendingCell → summaryCell c f < length out
   class-cell {f} h = subst (λ (z : ℕ). summaryCell c f < z) (sym (o .long)) (cell-in (o .class) (name-in h))
 
+  -- It is still there after the first store.
   pub class-cell-still : {f : ℕ} (h v : ℕ) {out₁ : List ℕ} → f ≤ pendingCell → out₁ ≡ set out (summaryCell c h) v → summaryCell c f < length out₁
   class-cell-still {f} h v l e =
       subst (λ (z : ℕ). summaryCell c f < z) (sym (ap length e ∙ length-set out (summaryCell c h) v)) (class-cell l)

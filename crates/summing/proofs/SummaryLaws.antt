@@ -30,16 +30,18 @@ use Rattle.summing.specs.Tally.{SpansCount, HeadsCount, Countable, count
 -- ---- the answers
 
 module _ (g : Shape) (t : Tables) (out : List ℕ) where
-  -- A table that is not as stated, records of another length, and an unsound table are refused.
+  -- A table that is not as stated is refused with 1.
   pub summary-refused : (r : Bool) → r ≡ asStated g t → r ≡ false → summed 1 out ≡ summary g t out
   unfolding summary
   summary-refused r e f = rw (sym e ∙ f)
 
+  -- Records of another length are refused with 1.
   pub summary-other-length : (length out ≡ classes g * summaryCells → ⊥) → summed 1 out ≡ summary g t out
   unfolding summary
   summary-other-length n = rw (ne-eqb (length out) (classes g * summaryCells) n, and-false (asStated g t))
 
   module _ (r : Bool) (e : r ≡ asStated g t) (f : r ≡ true) (l : length out ≡ classes g * summaryCells) where
+    -- An unsound table is refused with 2.
     pub summary-unsound : (q : Bool) → q ≡ isSound g t → q ≡ false → summed 2 out ≡ summary g t out
     unfolding summary
     summary-unsound q d n = rw (sym e ∙ f, eq-eqb (length out) (classes g * summaryCells) l, sym d ∙ n)

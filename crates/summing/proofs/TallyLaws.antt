@@ -29,11 +29,12 @@ row-least r = omega arith
 
 -- ---- one more
 
--- No word, and one word more.
+-- No word.
 pub pending-none : (bits : List ℕ) (s : ℕ) → 0 ≡ pendingIn bits s 0
 unfolding pendingIn sum
 pending-none bits s = refl
 
+-- One word more.
 pub pending-more :
     (bits : List ℕ) (s i : ℕ) {total w k : ℕ} → total ≡ pendingIn bits s i → w ≡ getD bits (bitmapCell s (remoteWord i)) 0 → k ≡ popcount w →
     total + k ≡ pendingIn bits s (i + 1)
@@ -41,22 +42,24 @@ unfolding pendingIn
 pending-more bits s i e w k =
     ap₂ _+_ e (k ∙ ap (λ (z : ℕ). popcount z) w) ∙ sym (sum-next i (λ j. popcount (getD bits (bitmapCell s (remoteWord j)) 0)))
 
--- No heap, and one heap more.
+-- No heap.
 pub cached-none : (heads : List ℕ) (classes c : ℕ) → 0 ≡ cachedIn heads classes 0 c
 unfolding cachedIn sum
 cached-none heads classes c = refl
 
+-- One heap more.
 pub cached-more :
     (heads : List ℕ) (classes h c : ℕ) {total k : ℕ} → total ≡ cachedIn heads classes h c → k ≡ countOf heads classes c h →
     total + k ≡ cachedIn heads classes (h + 1) c
 unfolding cachedIn
 cached-more heads classes h c e k = ap₂ _+_ e k ∙ sym (sum-next h (countOf heads classes c))
 
--- No span, and one span more.
+-- No span.
 pub tally-none : (spans : List ℕ) (f : ℕ → ℕ) (c : ℕ) → 0 ≡ tally spans 0 f c
 unfolding tally sum
 tally-none spans f c = refl
 
+-- One span more.
 pub tally-more :
     (spans : List ℕ) (n : ℕ) (f : ℕ → ℕ) (c : ℕ) → tally spans n f c + cond (eqb (classOf spans n) c) (f n) 0 ≡ tally spans (n + 1) f c
 unfolding tally
@@ -87,7 +90,7 @@ tally-most spans n m f c e =
     sum-bound n m (λ s. cond (eqb (classOf spans s) c) (f s) 0)
     (λ s h. cond-both (λ (z : ℕ). z ≤ m) (eqb (classOf spans s) c) (f s) 0 (λ q. e s h) (λ q. omega arith))
 
--- The spans of a class, and what is counted of them, are few.
+-- What is counted of the spans before one, and of that one, fits.
 few-of : {n used v k : ℕ} → used ≤ 2 ^ 32 → n < used → v ≤ n * mostSlots → k ≤ mostSlots → v + k < 2 ^ 64
 unfolding mostSlots
 few-of u h v k = omega arith
@@ -96,6 +99,7 @@ one-most : 1 ≤ mostSlots
 unfolding mostSlots
 one-most = omega arith
 
+-- The spans of a class are few.
 pub spans-few :
     {classes : ℕ} {bits spans : List ℕ} {used : ℕ} {out : List ℕ} → SpansCount classes bits spans used → Tallied classes bits spans used out → (c : ℕ) → c < classes →
     summaryAt out c spansCell ≤ 2 ^ 32
