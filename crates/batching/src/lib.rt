@@ -10,7 +10,7 @@ ghost use Rattle.tables.specs.Shape.{shape};
 ghost use Rattle.tables.specs.Cells.{tables as table};
 ghost use Rattle.calls.specs.Outcome.{ended};
 ghost use Rattle.calls.specs.Run.{performSound};
-ghost use Rattle.calls.specs.Batch.{recordBytes, marked, recordCall, answerCells, answered, batched, batchFrom};
+ghost use Rattle.calls.specs.Batch.{recordBytes, marked, recordCall, answerCells, answered, batched, batchFrom, wholeRecords};
 ghost use Rattle.sound_calls.specs.Lent.{Lent};
 ghost use Rattle.batching.specs.Kinds.{kindNumber};
 
@@ -173,6 +173,13 @@ fn answer_record(
     put_answer(answers, i, answer);
 }
 
+// How many records the bytes are.
+fn record_count(bytes: &[u8]) -> u64
+    ensures { λ r. ⌜ r ≡ length (now (bytes .entry)) / recordBytes ⌝ }
+{
+    bytes.len() as u64 / RECORD_BYTES
+}
+
 // Every record of a batch, in order.
 pub fn batch_sound(
     sizes: &[u64],
@@ -192,7 +199,7 @@ pub fn batch_sound(
     requires { ⌜ length (now bytes) / recordBytes * answerCells ≤ length (now answers) ⌝ }
     ensures { λ _. ⌜ ((most : ℕ) → batched 0 (now (answers .exit)) (table (now (bits .exit)) (now (records .exit)) (now (entries .exit)) (now (heads .exit)) (now (used .exit))) ≡ batchFrom (length (now (bytes .entry)) / recordBytes) 0 (shape (now (sizes .entry)) most heaps spans) (table (now (bits .entry)) (now (records .entry)) (now (entries .entry)) (now (heads .entry)) (now (used .entry))) (now (bytes .entry)) (now (answers .entry))) ⌝ }
 {
-    let n = bytes.len() as u64 / RECORD_BYTES;
+    let n = record_count(bytes);
     let mut i: u64 = 0;
     while i < n {
         answer_record(
@@ -211,4 +218,15 @@ pub fn batch_sound(
         );
         i += 1;
     }
+}
+
+// Whether the bytes are whole records, and the answers long enough.
+pub fn whole_records(bytes: &[u8], answers: &[u64]) -> bool
+    ensures { λ r. ⌜ r ≡ wholeRecords (now (bytes .entry)) (now (answers .entry)) ⌝ }
+{
+    let long = bytes.len() as u64;
+    if long % RECORD_BYTES != 0 {
+        return false;
+    }
+    long / RECORD_BYTES * ANSWER_CELLS <= answers.len() as u64
 }
