@@ -3,9 +3,13 @@ use mathlib.Core.Path.{_≡_, refl, sym, ap, subst, _∙_}
 use mathlib.Core.Bool.{Bool, true, false, cond}
 use mathlib.Core.List.{List}
 use mathlib.Core.Logic.{⊎-elim}
-use Prim.Native.Nat.{ℕ, _*_, _^_, _≤_}
+use Prim.Native.Nat.{ℕ, _*_, _/_, _%_, _^_, _≤_}
 use native.Mathlib.Omega.{arith}
+use borrow.Author.Tests.{leb-true}
+use lib.ListN.{length}
+use lib.Dec.{eqb, leb}
 use Rattle.laws.proofs.FirstLaws.{tested}
+use Rattle.laws.proofs.SomeLaws.{and-both}
 use Rattle.size_classes.specs.SlotSizes.{slotSizes}
 use Rattle.size_classes.specs.Slots.{mostSlots}
 use Rattle.size_classes.proofs.SlotSizeLaws.{slotSizes-admissible}
@@ -20,6 +24,7 @@ use Rattle.guard.specs.Guard.{soundNumber}
 use Rattle.guard.proofs.GuardLaws.{not-stated, found-sound, found-unsound, zero-means}
 use Rattle.calls.specs.declared.Answer.{Answer}
 use Rattle.calls.specs.Outcome.{Outcome, ended, refusal, refused}
+use Rattle.calls.specs.Batch.{recordBytes, answerCells, Batched, batched, batchFrom, wholeRecords, batch}
 use Rattle.calls.specs.Calls.{guarded, allocateSound, allocate, freeSound, free}
 use Rattle.sound_calls.specs.Lent.{Lent}
 
@@ -96,3 +101,46 @@ pub by-sizes :
     n ≡ soundNumber (baseShape heaps spans) t
 unfolding mostSpans
 by-sizes heaps spans t l n e s = s ∙ ap (λ (m : List ℕ). soundNumber (shape m 1024 heaps spans) t) e
+
+-- The same of lengths as stated.
+pub stated-by :
+    (heaps spans : ℕ) (t : Tables) (l : List ℕ) (r : Bool) → l ≡ slotSizes → r ≡ asStated (shape l 1024 heaps spans) t →
+    r ≡ asStated (baseShape heaps spans) t
+unfolding mostSpans
+stated-by heaps spans t l r e s = s ∙ ap (λ (m : List ℕ). asStated (shape m 1024 heaps spans) t) e
+
+-- ---- a batch, by its tests
+
+module _ (heaps spans : ℕ) (t : Tables) (bytes answers : List ℕ) where
+  pub batch-one : asStated (baseShape heaps spans) t ≡ false → batched 1 answers t ≡ batch (baseShape heaps spans) t bytes answers
+  unfolding batch
+  batch-one s = rw s
+
+  module _ (stated : asStated (baseShape heaps spans) t ≡ true) where
+    pub batch-ten : wholeRecords bytes answers ≡ false → batched 10 answers t ≡ batch (baseShape heaps spans) t bytes answers
+    unfolding batch
+    batch-ten m = rw (stated, m)
+
+    module _ (whole : wholeRecords bytes answers ≡ true) (n : ℕ) (e : n ≡ soundNumber (baseShape heaps spans) t) where
+      as-two : isSound (baseShape heaps spans) t ≡ false → batched 2 answers t ≡ batch (baseShape heaps spans) t bytes answers
+      unfolding batch
+      as-two d = rw (stated, whole, d)
+
+      pub batch-two : (n ≡ 0 → ⊥) → batched n answers t ≡ batch (baseShape heaps spans) t bytes answers
+      batch-two z =
+          ⊎-elim (λ d. absurd (z (e ∙ sym (found-sound (baseShape heaps spans) t stated d))))
+          (λ d. ap (λ (m : ℕ). batched m answers t) (e ∙ sym (found-unsound (baseShape heaps spans) t stated d)) ∙ as-two d)
+          (tested (isSound (baseShape heaps spans) t))
+
+      pub batch-passed :
+          (b : Batched) → n ≡ 0 → b ≡ batchFrom (length bytes / recordBytes) 0 (baseShape heaps spans) t bytes answers →
+          b ≡ batch (baseShape heaps spans) t bytes answers
+      unfolding batch
+      batch-passed b z a = let w = zero-means (baseShape heaps spans) t (sym e ∙ z) in rw (stated, whole, w .1) a
+
+-- Whole records have room for their answers.
+pub whole-fits : (bytes answers : List ℕ) → wholeRecords bytes answers ≡ true → length bytes / recordBytes * answerCells ≤ length answers
+unfolding wholeRecords
+whole-fits bytes answers e =
+    leb-true (length bytes / recordBytes * answerCells) (length answers)
+    (and-both (eqb (length bytes % recordBytes) 0) (leb (length bytes / recordBytes * answerCells) (length answers)) e .1)

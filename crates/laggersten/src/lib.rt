@@ -1,4 +1,4 @@
-// The public calls: fresh, allocate and free, with every refusal.
+// The public calls: fresh, allocate, free, batch and class summary, with every refusal.
 use calls::Answer;
 ghost use mathlib.Core.Path.{_≡_};
 ghost use Rattle.tables.specs.Shape.{baseShape};
@@ -6,6 +6,8 @@ ghost use Rattle.tables.specs.Cells.{tables as table};
 ghost use Rattle.tables.specs.Fresh.{numbered, fresh as freshly};
 ghost use Rattle.calls.specs.Outcome.{ended};
 ghost use Rattle.calls.specs.Calls.{allocate as allocated, free as released};
+ghost use Rattle.calls.specs.Batch.{batched, batch as performed};
+ghost use Rattle.calls.specs.Summary.{summed, summary as summarised};
 
 const MOST_SPANS: u64 = 1024;
 
@@ -126,5 +128,94 @@ pub fn free(
         heap,
         span,
         offset,
+    )
+}
+
+// The records of a batch answered in order, three numbers each; 1, 10 and 2 refuse the whole and write no answer.
+pub fn batch(
+    heaps: u64,
+    spans: u64,
+    bits: &mut [u64],
+    records: &mut [u64],
+    entries: &mut [u64],
+    heads: &mut [u64],
+    used: &mut u64,
+    bytes: &[u8],
+    answers: &mut [u64],
+) -> u64
+    ensures { λ r. ⌜ batched r (now (answers .exit)) (table (now (bits .exit)) (now (records .exit)) (now (entries .exit)) (now (heads .exit)) (now (used .exit))) ≡ performed (baseShape heaps spans) (table (now (bits .entry)) (now (records .entry)) (now (entries .entry)) (now (heads .entry)) (now (used .entry))) (now (bytes .entry)) (now (answers .entry)) ⌝ }
+{
+    let sizes = size_classes::slot_sizes();
+    if !fresh::as_stated(
+        &sizes,
+        MOST_SPANS,
+        heaps,
+        spans,
+        bits,
+        records,
+        entries,
+        heads,
+    ) {
+        return 1;
+    }
+    if !batching::whole_records(bytes, answers) {
+        return 10;
+    }
+    let number = guard::sound_number(
+        &sizes,
+        MOST_SPANS,
+        heaps,
+        spans,
+        bits,
+        records,
+        entries,
+        heads,
+        *used,
+    );
+    if number != 0 {
+        return number;
+    }
+    let lookup = class_lookup::made();
+    batching::batch_sound(
+        &sizes,
+        &lookup,
+        heaps,
+        spans,
+        bits,
+        records,
+        entries,
+        heads,
+        used,
+        bytes,
+        answers,
+    );
+    0
+}
+
+// Five numbers a class, over all heaps; 1 and 2 leave the records as they were.
+pub fn summary(
+    heaps: u64,
+    spans: u64,
+    bits: &[u64],
+    records: &[u64],
+    entries: &[u64],
+    heads: &[u64],
+    used: u64,
+    out: &mut [u64],
+) -> u64
+    ensures { λ r. ⌜ summed r (now (out .exit)) ≡ summarised (baseShape heaps spans) (table (now (bits .entry)) (now (records .entry)) (now (entries .entry)) (now (heads .entry)) used) (now (out .entry)) ⌝ }
+{
+    let sizes = size_classes::slot_sizes();
+    summing::summary(
+        &sizes,
+        MOST_SPANS,
+        heaps,
+        spans,
+        bits,
+        records,
+        entries,
+        heads,
+        used,
+        out,
     )
 }
