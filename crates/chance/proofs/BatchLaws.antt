@@ -7,15 +7,13 @@ use native.Mathlib.Omega.{arith}
 use native.Mathlib.Decide.{ℕ-discrete}
 use native.Mathlib.Nat.{mul-div-cancel, mul-mod-left, zero-add}
 use lib.ListN.{length, getD, set}
-use lib.Seq.{sets, length-sets, getD-set-same, getD-set-other}
-use lib.Dec.{eqb, leb}
+use lib.Seq.{length-sets, getD-set-same, getD-set-other}
 use borrow.Author.Tests.{eq-eqb, le-leb}
 use Rattle.size_classes.specs.SlotSizes.{Admissible}
 use Rattle.size_classes.specs.Slots.{mostSlots}
 use Rattle.size_classes.proofs.SlotSizeLaws.{slotSizes-admissible}
-use Rattle.tables.specs.Shape.{Shape, classes, baseShape, mostSpans}
+use Rattle.tables.specs.Shape.{Shape, classes, baseShape}
 use Rattle.tables.specs.Cells.{Tables, asStated, freshTables}
-use Rattle.tables.proofs.StatedLaws.{stated-passed}
 use Rattle.sound_laws.proofs.SoundTested.{sound-passes}
 use Rattle.sound_laws.proofs.FreshSound.{fresh-sound}
 use Rattle.homes.specs.Homes.{Whole}
@@ -24,7 +22,7 @@ use Rattle.calls.specs.Calls.{wordsNeeded}
 use Rattle.calls.specs.Run.{Call, allocation, release, malformed, perform, performSound}
 use Rattle.calls.specs.Batch.{wordsFrom, wordStep, recordBytes, recordCall, answerCells, answered, Batched, batchFrom, wholeRecords, batch}
 use Rattle.chance.specs.Counts.{Counts, noCounts}
-use Rattle.chance.specs.Chance.{rowIn, Request, allocating, freeing, neither, State, begin, After, allocated, released, callOf, leaves, step, Ruled, SameWords, countStep}
+use Rattle.chance.specs.Chance.{rowIn, Request, allocating, freeing, neither, State, begin, allocated, released, callOf, leaves, step, Ruled, SameWords, countStep}
 use Rattle.chance.specs.ChanceBatch.{wordsOf, Written, Records, SameBatch}
 use Rattle.chance.proofs.RowTests.{and-so}
 use Rattle.chance.proofs.CallAnswers.{allocate-sound, free-sound}

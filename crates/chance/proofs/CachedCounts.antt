@@ -2,26 +2,22 @@
 -- Assumes nothing.
 use mathlib.Core.Path.{_≡_, refl, sym, ap, subst, _∙_}
 use mathlib.Core.Bool.{Bool, true, false, _&&_, _||_, true≢false, cond}
-use mathlib.Core.Logic.{⊎-elim}
-use Prim.Native.Nat.{ℕ, zero, suc, _+_, _*_, _/_, _%_, _<_, _≤_}
+use Prim.Native.Nat.{ℕ, zero, suc, _+_, _*_, _<_, _≤_}
 use native.Mathlib.Nat.{lt-of-lt-of-le}
 use native.Mathlib.Omega.{arith}
-use lib.Dec.{eqb, leb}
-use borrow.Author.Tests.{eqb-true, eq-eqb, ne-eqb, leb-false}
+use lib.Dec.{eqb}
+use borrow.Author.Tests.{eq-eqb, ne-eqb}
 use Rattle.laws.specs.Choice.{sum, some}
-use Rattle.laws.specs.Word.{isSet}
 use Rattle.laws.proofs.CondLaws.{or-true}
-use Rattle.laws.proofs.FirstLaws.{tested}
-use Rattle.laws.proofs.SomeLaws.{some-at, some-not}
-use Rattle.size_classes.specs.Slots.{mostSlots}
+use Rattle.laws.proofs.SomeLaws.{some-not}
 use Rattle.tables.specs.declared.ClassHeap.{ClassHeap}
 use Rattle.tables.specs.Shape.{Shape, classes, classHeap}
-use Rattle.tables.specs.Cells.{Tables, bitmapWord, remoteSummary, remoteWord, occupiedAt, countAt, entryAt, entryOf, entrySpan, entrySlot}
+use Rattle.tables.specs.Cells.{Tables, occupiedAt, countAt, entryAt, entryOf, entrySpan, entrySlot}
 use Rattle.magazine.specs.Magazine.{isCached}
 use Rattle.magazine.proofs.CachedLaws.{cached-among}
 use Rattle.span.specs.Span.{hasPending, folded}
 use Rattle.span.specs.declared.BlockState.the-variants.{Free, Cached, Pending, Out}
-use Rattle.span.specs.State.{isOccupied, isPending, stateIn, stateOf, outState, isOut}
+use Rattle.span.specs.State.{isOccupied, isPending, stateOf, outState, isOut}
 use Rattle.sound.specs.Sound.{homeOf, setBits, Belongs}
 use Rattle.sound.specs.Filled.{Filled}
 use Rattle.filled_magazines.proofs.FilledFacts.{belongs-home, slots-within, entry-named, filled-entry, filled-distinct}

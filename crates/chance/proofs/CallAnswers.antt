@@ -6,7 +6,6 @@ use mathlib.Core.List.{List}
 use Prim.Native.Nat.{ℕ, _*_, _/_, _^_, _<_, _≤_}
 use native.Mathlib.Nat.{mul-div-cancel}
 use Rattle.size_classes.specs.Class.{inRange, smallestClass, classOf}
-use Rattle.size_classes.specs.declared.ClassFound.the-variants.{Class, TooLarge}
 use Rattle.size_classes.specs.declared.SlotFound.the-variants.{Slot}
 use Rattle.size_classes.specs.Slots.{mostSlots, slotsPerSpan, slotOffset, slotAt}
 use Rattle.size_classes.proofs.SlotTheorems.{accepts-exactly}
@@ -24,7 +23,7 @@ use Rattle.homes.specs.Homes.{Whole}
 use Rattle.homes.proofs.SoundWhole.{whole-sound}
 use Rattle.outs.specs.Outs.{IsOut, SameOuts, ComesOut, GoesBack}
 use Rattle.outs.proofs.OutsLaws.{spans-belongs}
-use Rattle.sound_calls.specs.Lent.{Lent, freeBlock}
+use Rattle.sound_calls.specs.Lent.{Lent}
 use Rattle.sound_calls.proofs.LentLaws.{home-slot}
 use Rattle.sound_calls.proofs.AllocationTests.{found-class}
 use Rattle.sound_calls.proofs.FreeTests.{at-slot, block-out}

@@ -1,30 +1,28 @@
 -- Demand 3: chance picks the place of a block, and neither an answer nor a count. Each call of a list follows the model of counts, which sees of the words
 -- how many are lent, so two runs with equally many words meet the same answers and counts. Assumes nothing.
-use mathlib.Core.Path.{_≡_, refl, sym, ap, subst, _∙_}
+use mathlib.Core.Path.{_≡_, refl, sym, subst, _∙_}
 use mathlib.Core.Bool.{true}
 use mathlib.Core.List.{List, [], _∷_}
 use Prim.Native.Nat.{ℕ, suc, _*_, _^_, _<_, _≤_}
 use native.Mathlib.Omega.{arith}
 use native.Mathlib.Nat.{not-suc-le-zero}
 use native.Mathlib.Decide.{decLt}
-use lib.ListN.{length, replicate, length-replicate}
+use lib.ListN.{length, length-replicate}
 use Rattle.laws.specs.Choice.{sum}
 use Rattle.laws.specs.Members.{Mem}
-use Rattle.size_classes.specs.SlotSizes.{Admissible, slotSizes}
+use Rattle.size_classes.specs.SlotSizes.{Admissible}
 use Rattle.size_classes.specs.Slots.{mostSlots}
 use Rattle.size_classes.proofs.SlotSizeLaws.{slotSizes-admissible}
 use Rattle.tables.specs.Shape.{Shape, classes, classHeap, baseShape, mostSpans}
 use Rattle.tables.specs.Cells.{Tables, asStated, freshTables, countAt}
-use Rattle.tables.specs.Stated.{Stated}
 use Rattle.tables.proofs.StatedLaws.{stated-passed, stated-passes}
 use Rattle.sound_laws.proofs.FreshSound.{fresh-sound}
-use Rattle.homes.specs.Homes.{Whole}
 use Rattle.homes.proofs.SoundWhole.{sound-whole}
 use Rattle.chance.specs.Pairs.{passing, pairs}
 use Rattle.chance.specs.Counts.{Counts, noCounts}
-use Rattle.chance.specs.Chance.{rowIn, Request, allocating, freeing, neither, State, begin, step, Names, Allowed, Ruled, Same, Alike, SameWords, countStep}
+use Rattle.chance.specs.Chance.{rowIn, Request, allocating, freeing, neither, State, begin, step, Allowed, Ruled, Alike, SameWords, countStep}
 use Rattle.chance.proofs.ModelLaws.{same-row}
-use Rattle.chance.proofs.Follows.{Live, Follows, Fits, free-fits}
+use Rattle.chance.proofs.Follows.{Follows, Fits, free-fits}
 use Rattle.chance.proofs.FollowsAllocate.{allocate-fits}
 
 -- ---- a fresh table

@@ -10,3 +10,4 @@ pub mod Follows
 pub mod FollowsAllocate
 pub mod ChanceLaws
 pub mod BatchLaws
+pub mod Worked

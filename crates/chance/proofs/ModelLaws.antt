@@ -1,11 +1,10 @@
 -- Arithmetic of the model of counts: what a refill's end says is what the model says. No table in sight. Assumes nothing.
 use mathlib.Core.Path.{_≡_, refl, ap, _∙_}
-use mathlib.Core.Bool.{Bool, true, false, cond, true≢false}
 use mathlib.Core.Logic.{_⊎_, ⊎-elim}
 use Prim.Native.Nat.{ℕ, _+_, _-_, _*_, _<_, _≤_}
 use native.Mathlib.Omega.{arith}
-use lib.Dec.{eqb, leb, ltb}
-use borrow.Author.Tests.{eqb-true, eqb-false, leb-true, leb-false, ltb-true, ltb-false}
+use lib.Dec.{leb, ltb}
+use borrow.Author.Tests.{leb-true, leb-false, ltb-true, ltb-false}
 use Rattle.laws.proofs.CondLaws.{cond-both}
 use Rattle.tables.specs.declared.ClassHeap.{ClassHeap}
 use Rattle.chance.specs.Counts.{Row, row, spare, Stock, stock, refillCount, refillFirstCount}

@@ -10,7 +10,6 @@ use lib.ListN.{getD}
 use Rattle.laws.proofs.CondLaws.{cond-both}
 use Rattle.occupancy.specs.declared.Claimed.{Claimed}
 use Rattle.occupancy.specs.declared.Claimed.the-variants.{Nothing, Taken}
-use Rattle.occupancy.specs.Occupied.{foldIn}
 use Rattle.tables.specs.declared.ClassHeap.{ClassHeap}
 use Rattle.tables.specs.Cells.{Tables, partialList, fullList, headAt, setEntry, countAt, entrySpan, entrySlot}
 use Rattle.magazine.specs.Held.{Apart}
@@ -18,7 +17,7 @@ use Rattle.magazine.specs.Magazine.{pushEntry, pushEntries, topEntry, popEntry,
 use Rattle.magazine.proofs.OtherMagazines.{only-counted, other-count}
 use Rattle.linked_list.proofs.QuietLaws.{quiet-count}
 use Rattle.span.specs.Span.{isFull, isEmpty, hasPending, stored, deallocSlot, reclaimPending, folded, claimedEntries}
-use Rattle.class_heap.specs.Steps.{refile, noPartial, replenish, ifFull, taken, claimOf, claimFrom, claimFront, refill, refilled, Refilled, giveBack, flushOne, flush}
+use Rattle.class_heap.specs.Steps.{refile, noPartial, replenish, taken, claimOf, claimFrom, claimFront, refill, refilled, Refilled, giveBack, flushOne, flush}
 use Rattle.placing.specs.Working.{Working}
 use Rattle.placing.proofs.PlacingQuiet.{refile-quiet, if-full-quiet}
 use Rattle.replenishing.proofs.ReplenishingLaws.{replenish-count}

@@ -1,7 +1,7 @@
 -- A refill follows the model of counts: it ends with a full magazine, or with nothing spare and no span unused, and it makes a span only where nothing is
 -- spare. Assumes nothing.
 use mathlib.Core.Path.{_≡_, refl, sym, ap, subst, _∙_}
-use mathlib.Core.Bool.{true, cond}
+use mathlib.Core.Bool.{cond}
 use mathlib.Core.List.{List}
 use mathlib.Core.Logic.{_⊎_, inl, inr, ⊎-elim}
 use Prim.Native.Nat.{ℕ, zero, suc, _+_, _-_, _*_, _^_, _<_, _≤_}
@@ -36,12 +36,12 @@ use Rattle.sound_steps.proofs.ReclaimSteps.{reclaimed-whole}
 use Rattle.sound_steps.proofs.ReplenishSteps.{new-but}
 use Rattle.sound_steps.proofs.DrySteps.{Dry, replenish-dry}
 use Rattle.sound_steps.proofs.RefillSteps.{turn-claims, refill-whole, whole-fronts}
-use Rattle.chance.specs.Counts.{Row, stock, refillCount}
+use Rattle.chance.specs.Counts.{stock, refillCount}
 use Rattle.chance.specs.Chance.{rowIn}
 use Rattle.chance.proofs.PairsLaws.{one}
 use Rattle.chance.proofs.RowTests.{belongs-passes, same-spans, one-span, same-out}
 use Rattle.chance.proofs.CachedCounts.{rows-within, rows-all}
-use Rattle.chance.proofs.ModelLaws.{Held, Ended, Grown, Kept, refill-is-count}
+use Rattle.chance.proofs.ModelLaws.{Held, Grown, Kept, refill-is-count}
 
 -- from t to u a span of k was created, as one was unused and nothing of k was free or pending
 record Created (limit : ℕ) (t u : Tables) (k : ClassHeap) : Type 0 where

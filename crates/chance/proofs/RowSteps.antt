@@ -13,7 +13,7 @@ use Rattle.size_classes.specs.Slots.{mostSlots}
 use Rattle.tables.specs.declared.ClassHeap.{ClassHeap}
 use Rattle.tables.specs.Shape.{Shape, classes, classHeap}
 use Rattle.tables.specs.Cells.{Tables, countAt, entryAt, entryOf, entrySpan, entrySlot}
-use Rattle.magazine.specs.Held.{Apart, OnlyMagazine}
+use Rattle.magazine.specs.Held.{Apart}
 use Rattle.magazine.specs.Magazine.{needsRefill, isFull, pushEntry, drawnAt, drawEntry}
 use Rattle.magazine.proofs.MagazineLaws.{push-count, draw-count}
 use Rattle.magazine.proofs.OtherMagazines.{class-heaps-apart, push-only, draw-only}
@@ -25,11 +25,11 @@ use Rattle.sound.specs.Sound.{Belongs}
 use Rattle.filled_magazines.proofs.FilledFacts.{belongs-home, home-owner, filled-room, low-under, count-within}
 use Rattle.filled_magazines.proofs.MagazineSteps.{block-out-entry}
 use Rattle.homes.specs.Homes.{Whole}
-use Rattle.outs.specs.Outs.{IsOut, SameSpans, SameOuts, ComesOut, GoesBack}
-use Rattle.outs.proofs.OutsLaws.{magazine-spans, spans-belongs, same-outs, same-goes}
+use Rattle.outs.specs.Outs.{IsOut, SameOuts, ComesOut, GoesBack}
+use Rattle.outs.proofs.OutsLaws.{spans-belongs, same-outs, same-goes}
 use Rattle.outs.proofs.BlockOuts.{draw-comes, draw-belongs, push-goes, remote-goes, flush-outs}
 use Rattle.sound_steps.proofs.FlushSteps.{remote-whole, push-entry-whole, draw-entry-whole, flush-whole}
-use Rattle.chance.specs.Counts.{Row, row, Stock, stock, refillCount, refillFirstCount, drawRow, freeRow}
+use Rattle.chance.specs.Counts.{Row, row, stock, refillFirstCount, drawRow, freeRow}
 use Rattle.chance.specs.Chance.{rowIn}
 use Rattle.chance.proofs.RowTests.{belongs-once, same-spans, other-spans, same-out, comes-more, comes-other, goes-fewer, goes-other}
 use Rattle.chance.proofs.ModelLaws.{same-row}

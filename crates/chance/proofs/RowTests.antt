@@ -1,10 +1,10 @@
 -- The numbers of blocks out and of spans, of each class and heap, after a step: where the same blocks are out, where one comes out, where one goes back.
 -- Assumes nothing.
 use mathlib.Core.Path.{_≡_, refl, sym, ap, ap₂, subst, _∙_}
-use mathlib.Core.Bool.{Bool, true, false, _&&_, true≢false}
+use mathlib.Core.Bool.{Bool, true, false, _&&_}
 use mathlib.Core.Logic.{⊎-elim}
 use Prim.Native.Nat.{ℕ, _+_, _<_, _≤_}
-use native.Mathlib.Nat.{lt-of-lt-of-le, le-refl}
+use native.Mathlib.Nat.{lt-of-lt-of-le}
 use native.Mathlib.Omega.{arith}
 use lib.Dec.{eqb}
 use borrow.Author.Tests.{eqb-true, eq-eqb}
@@ -13,10 +13,8 @@ use Rattle.laws.proofs.SomeLaws.{and-both}
 use Rattle.tables.specs.declared.ClassHeap.{ClassHeap}
 use Rattle.tables.specs.Shape.{Shape, classHeap}
 use Rattle.tables.specs.Cells.{Tables, classAt, ownerAt}
-use Rattle.span.specs.declared.BlockState.{BlockState}
-use Rattle.span.specs.declared.BlockState.the-variants.{Out}
 use Rattle.span.specs.State.{stateOf, outState, isOut}
-use Rattle.sound.specs.Sound.{homeOf, Belongs}
+use Rattle.sound.specs.Sound.{Belongs}
 use Rattle.filled_magazines.proofs.FilledFacts.{belongs-home, home-class, home-owner}
 use Rattle.outs.specs.Outs.{IsOut, SameSpans, SameOuts, ComesOut, GoesBack}
 use Rattle.sound_calls.proofs.FreeTests.{out-state}
