@@ -9,6 +9,7 @@ use native.Mathlib.Nat.{mul-div-cancel, mul-mod-left, zero-add}
 use lib.ListN.{length, getD, set}
 use lib.Seq.{length-sets, getD-set-same, getD-set-other}
 use borrow.Author.Tests.{eq-eqb, le-leb}
+use Rattle.laws.proofs.TestLaws.{and-so}
 use Rattle.size_classes.specs.SlotSizes.{Admissible}
 use Rattle.size_classes.specs.Slots.{mostSlots}
 use Rattle.size_classes.proofs.SlotSizeLaws.{slotSizes-admissible}
@@ -24,7 +25,6 @@ use Rattle.calls.specs.Batch.{wordsFrom, wordStep, recordBytes, recordCall, ans
 use Rattle.chance.specs.Counts.{Counts, noCounts}
 use Rattle.chance.specs.Chance.{rowIn, Request, allocating, freeing, neither, State, begin, allocated, released, callOf, leaves, step, Ruled, SameWords, countStep}
 use Rattle.chance.specs.ChanceBatch.{wordsOf, Written, Records, SameBatch}
-use Rattle.chance.proofs.RowTests.{and-so}
 use Rattle.chance.proofs.CallAnswers.{allocate-sound, free-sound}
 use Rattle.chance.proofs.Follows.{Follows, Fits}
 use Rattle.chance.proofs.ChanceLaws.{fresh-stated, fresh-follows, follow, same-allowed, base-few}

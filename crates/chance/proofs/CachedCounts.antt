@@ -9,6 +9,7 @@ use lib.Dec.{eqb}
 use borrow.Author.Tests.{eq-eqb, ne-eqb}
 use Rattle.laws.specs.Choice.{sum, some}
 use Rattle.laws.proofs.CondLaws.{or-true}
+use Rattle.laws.proofs.TestLaws.{test-fails}
 use Rattle.laws.proofs.SomeLaws.{some-not}
 use Rattle.tables.specs.declared.ClassHeap.{ClassHeap}
 use Rattle.tables.specs.Shape.{Shape, classes, classHeap}
@@ -24,10 +25,10 @@ use Rattle.filled_magazines.proofs.FilledFacts.{belongs-home, slots-within, ent
 use Rattle.filled_magazines.proofs.OneMagazine.{names-block}
 use Rattle.filled_magazines.proofs.StateLaws.{block-belongs}
 use Rattle.filled_spans.proofs.ReclaimKept.{folded-none}
-use Rattle.chance.specs.Pairs.{passing, pairs}
+use Rattle.laws.specs.Pairs.{passing, pairs}
 use Rattle.chance.specs.Chance.{isOf, rowIn}
-use Rattle.chance.proofs.PairsLaws.{one, passing-all, pairs-more, pairs-rows, pairs-two-most, pairs-two, pairs-longer}
-use Rattle.chance.proofs.RowTests.{belongs-passes, passes-belongs, outTest, test-fails}
+use Rattle.laws.proofs.PairsLaws.{one, passing-all, pairs-more, pairs-rows, pairs-two-most, pairs-two, pairs-longer}
+use Rattle.chance.proofs.RowTests.{belongs-passes, passes-belongs, outTest}
 
 -- the three tests of a block that tell whether it is out
 abbrev outBy : Bool → Bool → Bool → Bool

@@ -18,7 +18,7 @@ use Rattle.tables.specs.Cells.{Tables, asStated, freshTables, countAt}
 use Rattle.tables.proofs.StatedLaws.{stated-passed, stated-passes}
 use Rattle.sound_laws.proofs.FreshSound.{fresh-sound}
 use Rattle.homes.proofs.SoundWhole.{sound-whole}
-use Rattle.chance.specs.Pairs.{passing, pairs}
+use Rattle.laws.specs.Pairs.{passing, pairs}
 use Rattle.chance.specs.Counts.{Counts, noCounts}
 use Rattle.chance.specs.Chance.{rowIn, Request, allocating, freeing, neither, State, begin, step, Allowed, Ruled, Alike, SameWords, countStep}
 use Rattle.chance.proofs.ModelLaws.{same-row}

@@ -28,12 +28,6 @@ use Rattle.chance.proofs.CallAnswers.{OutAs, out-goes, free-sound, owne
 
 -- ---- what a call of the list and of the model have in common
 
--- Both pick by one test.
-pub paired :
-    {A B : Type 0} (R : A → B → Type 0) (b : Bool) (x y : A) (u v : B) → (b ≡ true → R x u) → (b ≡ false → R y v) → R (cond b x y) (cond b u v)
-paired R true x y u v f g = f refl
-paired R false x y u v f g = g refl
-
 -- whose block allocation n gave, by the model
 abbrev pub whoseAt : Counts → ℕ → Whose
 whoseAt m n = getD (m .given) n (whose 0 0)

@@ -10,6 +10,7 @@ use lib.ListN.{length, getD, length-append, List·getD-append}
 use lib.Seq.{getD-at}
 use lib.Dec.{eqb, leb, ltb}
 use borrow.Author.Tests.{ltb-true, eqb-true, eqb-false}
+use Rattle.laws.proofs.TestLaws.{paired}
 use Rattle.size_classes.specs.Class.{inRange, smallestClass}
 use Rattle.size_classes.specs.Slots.{mostSlots, slotOffset}
 use Rattle.tables.specs.declared.ClassHeap.{ClassHeap}
@@ -29,7 +30,7 @@ use Rattle.chance.proofs.RowTests.{belongs-once}
 use Rattle.chance.proofs.ModelLaws.{none-cached}
 use Rattle.chance.proofs.RowSteps.{Draws, Refills, refill-first, draws}
 use Rattle.chance.proofs.CallAnswers.{OutAs, out-same, out-comes, class-found, allocate-sound, one-offset}
-use Rattle.chance.proofs.Follows.{whoseAt, Live, Follows, Fits, paired, put-rows, all-rows}
+use Rattle.chance.proofs.Follows.{whoseAt, Live, Follows, Fits, put-rows, all-rows}
 
 module _ (g : Shape) (small : g .spans * mostSlots ≤ 2 ^ 64) (s : State) (m : Counts) (f : Follows g s m) where
   abbrev t : Tables

@@ -1,4 +1,3 @@
-pub mod PairsLaws
 pub mod RowTests
 pub mod CachedCounts
 pub mod ModelLaws

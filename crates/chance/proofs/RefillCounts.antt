@@ -38,7 +38,7 @@ use Rattle.sound_steps.proofs.DrySteps.{Dry, replenish-dry}
 use Rattle.sound_steps.proofs.RefillSteps.{turn-claims, refill-whole, whole-fronts}
 use Rattle.chance.specs.Counts.{stock, refillCount}
 use Rattle.chance.specs.Chance.{rowIn}
-use Rattle.chance.proofs.PairsLaws.{one}
+use Rattle.laws.proofs.PairsLaws.{one}
 use Rattle.chance.proofs.RowTests.{belongs-passes, same-spans, one-span, same-out}
 use Rattle.chance.proofs.CachedCounts.{rows-within, rows-all}
 use Rattle.chance.proofs.ModelLaws.{Held, Grown, Kept, refill-is-count}

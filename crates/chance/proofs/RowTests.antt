@@ -10,6 +10,7 @@ use lib.Dec.{eqb}
 use borrow.Author.Tests.{eqb-true, eq-eqb}
 use Rattle.laws.proofs.FirstLaws.{tested}
 use Rattle.laws.proofs.SomeLaws.{and-both}
+use Rattle.laws.proofs.TestLaws.{tests-agree, test-fails, and-so}
 use Rattle.tables.specs.declared.ClassHeap.{ClassHeap}
 use Rattle.tables.specs.Shape.{Shape, classHeap}
 use Rattle.tables.specs.Cells.{Tables, classAt, ownerAt}
@@ -18,23 +19,9 @@ use Rattle.sound.specs.Sound.{Belongs}
 use Rattle.filled_magazines.proofs.FilledFacts.{belongs-home, home-class, home-owner}
 use Rattle.outs.specs.Outs.{IsOut, SameSpans, SameOuts, ComesOut, GoesBack}
 use Rattle.sound_calls.proofs.FreeTests.{out-state}
-use Rattle.chance.specs.Pairs.{passing, pairs}
+use Rattle.laws.specs.Pairs.{passing, pairs}
 use Rattle.chance.specs.Chance.{isOf, rowIn}
-use Rattle.chance.proofs.PairsLaws.{one, passing-same, passing-next, passing-longer, pairs-same, pairs-more, pairs-longer}
-
--- Two tests of which each passes where the other does.
-pub tests-agree : (a b : Bool) → (a ≡ true → b ≡ true) → (b ≡ true → a ≡ true) → a ≡ b
-tests-agree true b f g = sym (f refl)
-tests-agree false true f g = g refl
-tests-agree false false f g = refl
-
--- A test that cannot pass fails.
-pub test-fails : (b : Bool) → (b ≡ true → ⊥) → b ≡ false
-test-fails b n = ⊎-elim (λ e. absurd (n e)) (λ e. e) (tested b)
-
--- Both tests pass.
-pub and-so : (a b : Bool) → a ≡ true → b ≡ true → (a && b) ≡ true
-and-so a b e d = rw (e, d)
+use Rattle.laws.proofs.PairsLaws.{one, passing-same, passing-next, passing-longer, pairs-same, pairs-more, pairs-longer}
 
 -- ---- spans of a class and heap
 

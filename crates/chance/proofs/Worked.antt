@@ -10,7 +10,7 @@ use Rattle.tables.specs.Shape.{Shape, baseShape}
 use Rattle.tables.specs.Cells.{Tables, tables, asStated}
 use Rattle.calls.specs.Batch.{wordsFrom}
 use Rattle.calls.proofs.Computed.{computed}
-use Rattle.chance.specs.Pairs.{passing, pairs}
+use Rattle.laws.specs.Pairs.{passing, pairs}
 use Rattle.chance.specs.Counts.{row}
 use Rattle.chance.specs.Chance.{rowIn, Request, allocating, freeing, State, begin, place, allocated, released, step, Ruled}
 

@@ -14,7 +14,7 @@ use Rattle.tables.specs.Cells.{Tables, freshTables, classAt, ownerAt, countAt}
 use Rattle.span.specs.State.{isOut}
 use Rattle.calls.specs.Outcome.{Outcome}
 use Rattle.calls.specs.Run.{Call, allocation, release, malformed, perform}
-use Rattle.chance.specs.Pairs.{passing, pairs}
+use Rattle.laws.specs.Pairs.{passing, pairs}
 use Rattle.chance.specs.Counts.{Row, row, Counts, Counted, counted, allocateCount, freeCount}
 
 -- ---- what is counted

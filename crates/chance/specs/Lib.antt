@@ -1,4 +1,3 @@
-pub mod Pairs
 pub mod Counts
 pub mod Chance
 pub mod ChanceBatch

@@ -9,6 +9,7 @@ pub mod ListedChains
 pub mod ListedLaws
 pub mod MaskLaws
 pub mod MemberLaws
+pub mod PairsLaws
 pub mod PasteLaws
 pub mod Pigeonhole
 pub mod Powers
@@ -18,4 +19,5 @@ pub mod SumBounds
 pub mod SumLaws
 pub mod SumSteps
 pub mod TableLaws
+pub mod TestLaws
 pub mod WordLaws

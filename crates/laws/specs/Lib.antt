@@ -4,5 +4,6 @@ pub mod First
 pub mod Links
 pub mod Listed
 pub mod Members
+pub mod Pairs
 pub mod Table
 pub mod Word

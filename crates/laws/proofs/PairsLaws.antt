@@ -5,11 +5,11 @@ use mathlib.Core.Logic.{⊎-elim}
 use Prim.Native.Nat.{ℕ, zero, suc, _+_, _*_, _<_, _≤_}
 use native.Mathlib.Decide.{decLt, ℕ-discrete}
 use native.Mathlib.Omega.{arith}
 use Rattle.laws.specs.Choice.{sum}
 use Rattle.laws.proofs.SumLaws.{sum-same, sum-none, sum-ones, sum-most}
 use Rattle.laws.proofs.FirstLaws.{tested}
 use Rattle.laws.proofs.SumSteps.{sum-next}
-use Rattle.chance.specs.Pairs.{passing, pairs}
+use Rattle.laws.specs.Pairs.{passing, pairs}
 
 -- ---- sums
 
