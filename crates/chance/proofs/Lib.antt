@@ -1,6 +1,7 @@
 pub mod RowTests
 pub mod CachedCounts
 pub mod ModelLaws
+pub mod Borrowed
 pub mod RefillCounts
 pub mod OtherCounts
 pub mod RowSteps

@@ -39,6 +39,7 @@ use Rattle.sound_steps.proofs.RefillSteps.{turn-claims, refill-whole, whole-fro
 use Rattle.chance.specs.Counts.{stock, refillCount}
 use Rattle.chance.specs.Chance.{rowIn}
 use Rattle.laws.proofs.PairsLaws.{one}
+use Rattle.chance.proofs.Borrowed.{refill-takes-all}
 use Rattle.chance.proofs.RowTests.{belongs-passes, same-spans, one-span, same-out}
 use Rattle.chance.proofs.CachedCounts.{rows-within, rows-all}
 use Rattle.chance.proofs.ModelLaws.{Held, Grown, Kept, refill-is-count}
@@ -160,9 +161,8 @@ module _ (g : Shape) (h c : ℕ) (hh : h < g .heaps) (hc : c < classes g) where
 
       -- ---- the refill
 
-      -- how a refill ends
-      record Ends (t u : Tables) : Type 0 where
-        end : (k .capacity ≤ countAt u k) ⊎ Dry limit u k
+      -- the spans that a refill makes: one at most, of the class and heap, and only where what is spare would not fill the magazine
+      record Makes (t u : Tables) : Type 0 where
         own : (s : ℕ) → t .used ≤ s → s < u .used → Belongs u k s
         grew : Kept (rowIn g t h c) (t .used) (rowIn g u h c) (u .used) ⊎ Grown limit k (rowIn g t h c) (t .used) (rowIn g u h c) (u .used)
 
@@ -170,16 +170,15 @@ module _ (g : Shape) (h c : ℕ) (hh : h < g .heaps) (hc : c < classes g) where
       kept-so : {t u : Tables} → SameOuts g t u → u .used ≡ t .used → Kept (rowIn g t h c) (t .used) (rowIn g u h c) (u .used)
       kept-so a e = record { used = e; spans = same-spans g h c (a .spans) e }
 
-      ends-same : {t : Tables} → (k .capacity ≤ countAt t k) ⊎ Dry limit t k → Ends t t
-      ends-same {t} e = record { end = e; own = λ s l m. absurd (let w : ⊥ = omega arith in w); grew = inl (kept-so (same-outs g t) refl) }
+      makes-none : (t : Tables) → Makes t t
+      makes-none t = record { own = λ s l m. absurd (let w : ⊥ = omega arith in w); grew = inl (kept-so (same-outs g t) refl) }
 
       -- after a turn that makes no span
-      ends-then : {t v u : Tables} → SameOuts g t v → v .used ≡ t .used → Ends v u → Ends t u
-      ends-then {t} {v} {u} a e z =
+      makes-then : {t v u : Tables} → SameOuts g t v → v .used ≡ t .used → Makes v u → Makes t u
+      makes-then {t} {v} {u} a e z =
           let s = same-spans g h c (a .spans) e in
           let q = same-out g h c a in
           record {
-            end = z .end;
             own = λ s l m. z .own s (omega (arith, l, e)) m;
             grew =
                 ⊎-elim (λ x. inl (record { used = x .used ∙ e; spans = x .spans ∙ s }))
@@ -206,34 +205,32 @@ module _ (g : Shape) (h c : ℕ) (hh : h < g .heaps) (hc : c < classes g) where
             short = let n : rowIn g t h c .cached ≡ countAt t k = unfold rowIn in refl in omega (arith, dry-all o (x .dry), l, n);
           }
 
-      refill-ends : (n : ℕ) {t : Tables} → Whole g t → k .capacity ≤ n + countAt t k → (ws : List ℕ) (i : ℕ) → Ends t (refill n limit t k ws i .table)
+      refill-makes : (n : ℕ) {t : Tables} → Whole g t → (ws : List ℕ) (i : ℕ) → Makes t (refill n limit t k ws i .table)
       unfolding refill
-      refill-ends zero o l ws i = ends-same (inl (omega arith))
-      refill-ends (suc n) {t} o m ws i =
+      refill-makes zero {t} o ws i = makes-none t
+      refill-makes (suc n) {t} o ws i =
           let v = replenish limit t k in
           let w = getD ws i 0 in
           let u = claimFront v k w in
           let rest = refill n limit u k ws (i + 1) in
-          let P : Refilled → Type 0 = λ r. Ends t (r .table) in
+          let P : Refilled → Type 0 = λ r. Makes t (r .table) in
           cond-both P (ltb (countAt t k) (k .capacity)) (cond (noPartial v k) (refilled v i) rest) (refilled t i)
           (λ a.
           let l = ltb-true (countAt t k) (k .capacity) a in
           cond-both P (noPartial v k) (refilled v i) rest
           (λ e.
           let d = replenish-dry hh hc limit few o (eqb-true (headAt v k partialList) 0 e) in
-          subst (Ends t) (sym (d .same)) (ends-same (inr d)))
+          subst (Makes t) (sym (d .same)) (makes-none t))
           (λ e.
           let some = eqb-false (headAt v k partialList) 0 e in
           let q = turn-claims hh hc limit few o l some w in
-          let more : k .capacity ≤ n + countAt u k = omega (arith, m, q .counted, q .some, replenish-count limit t k k) in
-          let z = refill-ends n (q .whole) more ws (i + 1) in
+          let z = refill-makes n (q .whole) ws (i + 1) in
           let f = front-fills o l some ws i in
           let a : SameOuts g t u = fills-outs (fills-then (replenish-fills (working o)) f) in
           let b = refill-outs n (working (q .whole)) ws (i + 1) (whole-fronts hh hc limit few n (q .whole) ws (i + 1)) in
-          ⊎-elim (λ s. ends-then a (q .used ∙ s) z)
+          ⊎-elim (λ s. makes-then a (q .used ∙ s) z)
           (λ x.
           record {
-            end = z .end;
             own =
                 λ s l m.
                 elim (ℕ-discrete (t .used) s) [
@@ -251,7 +248,7 @@ module _ (g : Shape) (h c : ℕ) (hh : h < g .heaps) (hc : c < classes g) where
                 (z .grew);
           })
           (replenish-created o)))
-          (λ a. ends-same (inl (ltb-false (countAt t k) (k .capacity) a)))
+          (λ a. makes-none t)
 
       module _ {t : Tables} (o : Whole g t) (ws : List ℕ) where
         abbrev last : Tables
@@ -267,13 +264,13 @@ module _ (g : Shape) (h c : ℕ) (hh : h < g .heaps) (hc : c < classes g) where
 
         -- each span that it made is of the class and heap,
         pub refilled-new : (s : ℕ) → t .used ≤ s → s < last .used → Belongs last k s
-        refilled-new = refill-ends (k .capacity) o (omega arith) ws 0 .own
+        refilled-new = refill-makes (k .capacity) o ws 0 .own
 
         -- and its row and the spans used are the model's.
         pub refilled-row : stock (rowIn g last h c) (last .used) ≡ refillCount limit k (rowIn g t h c) (t .used)
         refilled-row =
-            let z = refill-ends (k .capacity) o (omega arith) ws 0 in
             let n : rowIn g last h c .cached ≡ countAt last k = unfold rowIn in refl in
             refill-is-count limit k (rowIn g t h c) (rowIn g last h c) (t .used) (last .used) (capacity-in-span g h c) (whole-held o) (whole-held refilled-whole)
-            (same-out g h c refilled-outs) (z .grew)
-            (⊎-elim (λ e. inl (omega (arith, e, n))) (λ d. inr (record { all = dry-all refilled-whole d; unused = d .used })) (z .end))
+            (same-out g h c refilled-outs) (refill-makes (k .capacity) o ws 0 .grew)
+            (⊎-elim (λ e. inl (omega (arith, e, n))) (λ d. inr (record { all = dry-all refilled-whole d; unused = d .used }))
+            (refill-takes-all g h c hh hc limit few (k .capacity) o (omega arith) ws 0))
