@@ -63,10 +63,12 @@ module _ (g : Shape) {t : Tables} (small : g .spans * mostSlots ≤ 2 ^ 64) (o :
   unfolding guarded
   guard-passes x = rw (o .near .filled .stated, sound-passes g t (whole-sound o))
 
+  -- An allocation on a whole table is what it is on a sound one,
   pub allocate-sound : (heap size alignment : ℕ) (ws : List ℕ) → allocate g t heap size alignment ws ≡ allocateSound g t heap size alignment ws
   unfolding allocate
   allocate-sound heap size alignment ws = guard-passes (allocateSound g t heap size alignment ws)
 
+  -- and so is a free.
   pub free-sound : (heap s offset : ℕ) → free g t heap s offset ≡ freeSound g t heap s offset
   unfolding free
   free-sound heap s offset = guard-passes (freeSound g t heap s offset)
@@ -80,10 +82,11 @@ module _ (g : Shape) {t : Tables} (small : g .spans * mostSlots ≤ 2 ^ 64) (o :
     home : classHeap g h c ≡ homeOf g t s
     home = sym (belongs-home g t h c s b)
 
-    -- Heap and class of a used span exist.
+    -- The heap of a used span exists,
     pub owner-in : h < g .heaps
     owner-in = subst (λ (x : ℕ). x < g .heaps) (b .owner ∙ home-owner g h c) (o .near .filled .spans s (b .used) .owner)
 
+    -- and so does its class.
     pub class-in : c < classes g
     class-in = subst (λ (x : ℕ). x < classes g) (b .class ∙ home-class g h c) (o .near .filled .spans s (b .used) .class)
 

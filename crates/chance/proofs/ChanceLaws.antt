@@ -76,6 +76,7 @@ module _ (g : Shape) (small : g .spans * mostSlots ≤ 2 ^ 64) where
 
   -- ---- each call follows the model
 
+  -- A call answers the model's number, and leaves the model's counts, of the words of which the model sees how many there are.
   pub follow :
       (s : State) (m : Counts) → Follows g s m → (r : Request) → Allowed g s r → (ws : List ℕ) → Fits g (step g s r ws) (countStep g m r (length ws))
   unfolding step countStep

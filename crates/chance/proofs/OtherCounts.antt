@@ -26,15 +26,17 @@ use Rattle.flushing.proofs.FlushingLaws.{give-back-count, flush-one-count, flus
 -- ---- the count of another magazine
 
 module _ (k j : ClassHeap) (a : Apart k j) where
-  -- A push, a pop and a draw.
+  -- A push leaves it,
   pub push-other : (t : Tables) (e : ℕ) → countAt (pushEntry t k e) j ≡ countAt t j
   unfolding pushEntry
   push-other t e = let v = setEntry t k (countAt t k) e in other-count v _ k j (only-counted v k (countAt t k + 1)) a
 
+  -- and a pop,
   pop-other : (t : Tables) → countAt (popEntry t k) j ≡ countAt t j
   unfolding popEntry
   pop-other t = other-count t _ k j (only-counted t k (countAt t k - 1)) a
 
+  -- and a draw.
   pub draw-other : (t : Tables) (word : ℕ) → countAt (drawEntry t k word) j ≡ countAt t j
   unfolding drawEntry
   draw-other t word =
@@ -93,7 +95,7 @@ module _ (k j : ClassHeap) (a : Apart k j) where
 
 -- ---- a flush, and its own magazine
 
--- It makes no span.
+-- A slot given back makes no span.
 give-back-used : (t : Tables) (k : ClassHeap) (s q : ℕ) → giveBack t k s q .used ≡ t .used
 unfolding giveBack deallocSlot stored
 give-back-used t k s q =
@@ -103,6 +105,7 @@ give-back-used t k s q =
     (λ e. refile-quiet u k fullList (omega arith) s .used)
     (λ e. cond-both P (isEmpty u s) (refile u k partialList s) u (λ d. refile-quiet u k partialList (omega arith) s .used) (λ d. refl))
 
+-- A flush makes no span.
 pub flush-used : (n : ℕ) (t : Tables) (k : ClassHeap) → flush n t k .used ≡ t .used
 unfolding flush flushOne popEntry
 flush-used zero t k = refl

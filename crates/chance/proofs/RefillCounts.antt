@@ -128,6 +128,7 @@ module _ (g : Shape) (h c : ℕ) (hh : h < g .heaps) (hc : c < classes g) where
     module _ (small : g .spans * mostSlots ≤ 2 ^ 64) where
       -- ---- a turn
 
+      -- a whole table works for the class and heap
       abbrev pub working : {t : Tables} → Whole g t → Working limit k t
       working o =
           record {

@@ -83,11 +83,11 @@ module _ (g : Shape) (small : g .spans * mostSlots ≤ 2 ^ 64) (h c : ℕ) (hh :
   not-other : {u : Tables} {s : ℕ} (x y : ℕ) → (x ≡ h → y ≡ c → ⊥) → Belongs u k s → Belongs u (classHeap g x y) s → ⊥
   not-other {u} {s} x y n a b = let r = belongs-once g u h c x y s a b in n (r .0) (r .1)
 
-  -- ---- nothing changed
-
+  -- Nothing changed.
   pub stays-same : {t : Tables} → Whole g t → Stays g h c t t
   stays-same o = record { whole = o; others = λ x y l m n. refl }
 
+  -- One step after another.
   pub stays-then : {t u v : Tables} → Stays g h c t u → Stays g h c u v → Stays g h c t v
   stays-then a b = record { whole = b .whole; others = λ x y l m n. b .others x y l m n ∙ a .others x y l m n }
 
@@ -129,6 +129,7 @@ module _ (g : Shape) (small : g .spans * mostSlots ≤ 2 ^ 64) (h c : ℕ) (hh :
     -- ---- the draw
 
     module _ (some : 0 < countAt t k) (word : ℕ) where
+      -- A draw takes the drawn entry's block out.
       pub draws :
           Draws g h c t (drawEntry t k word) (entrySpan (entryAt t k (drawnAt t k word))) (entrySlot (entryAt t k (drawnAt t k word)))
       draws =

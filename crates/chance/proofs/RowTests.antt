@@ -57,10 +57,11 @@ module _ (g : Shape) (h c : ℕ) where
     pub out-passes : Belongs t k s → IsOut g t s q → outTest t s q ≡ true
     out-passes b o = and-so _ _ (belongs-passes b) (ap outState (o .out))
 
-    -- and a block of a used span where it passes is out.
+    -- a used span of a block where it passes is of the class and heap,
     pub passes-of : s < t .used → outTest t s q ≡ true → Belongs t k s
     passes-of l e = passes-belongs l (and-both (isOf t k s) (isOut g t s q) e .0)
 
+    -- and the block is out.
     pub passes-out : s < t .used → q < k .slots → outTest t s q ≡ true → IsOut g t s q
     passes-out l m e =
         let b = passes-of l e in
@@ -103,6 +104,7 @@ module _ (g : Shape) (h c : ℕ) where
         passing-longer (t .used) (u .used) (isOf u k) (a .used) (λ s l m. test-fails (isOf u k s) (λ e. n s l (passes-belongs m e)))
         ∙ passing-same (t .used) (isOf u k) (isOf t k) still-of
 
+    -- as where no span was created at all,
     pub same-spans : u .used ≡ t .used → rowIn g u h c .spans ≡ rowIn g t h c .spans
     same-spans e = other-spans (λ s l b. omega (arith, e, l, b .used))
 
@@ -147,7 +149,7 @@ module _ (g : Shape) (h c : ℕ) where
         (λ s q i j n. sym (agrees (a .spans) s q i j (λ z o. a .kept s q o n) (λ z o. a .none s q o)))
         ∙ ap (λ (n : ℕ). pairs n (k .slots) (outTest u) + 1) (sym e)
 
-    -- and as many where the block is of another.
+    -- and as many where the block that comes out is of another,
     pub comes-other : ComesOut g t u x y → (Belongs u k x → ⊥) → rowIn g u h c .out ≡ rowIn g t h c .out
     unfolding rowIn
     comes-other a d =
@@ -158,6 +160,7 @@ module _ (g : Shape) (h c : ℕ) where
         agrees (a .spans) s q i j (λ z o. a .kept s q o)
         (λ z o. a .none s q o (λ p r. d (subst (Belongs u k) p (is-of (a .spans) z))))))
 
+    -- or the block that goes back.
     pub goes-other : GoesBack g t u x y → (Belongs t k x → ⊥) → rowIn g u h c .out ≡ rowIn g t h c .out
     unfolding rowIn
     goes-other a d =

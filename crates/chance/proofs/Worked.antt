@@ -34,6 +34,7 @@ after-first seed = step shape (begin blank) (allocating 0 131072 1) (words seed 
 abbrev after-both : ℕ → State
 after-both seed = step shape (after-first seed) (freeing 1 0) (words seed 1) .state
 
+-- what the two runs come to
 pub record WorkedChance : Type 0 where
   pub stated : asStated shape blank ≡ true
   -- the block is given at two places,
@@ -47,6 +48,7 @@ pub record WorkedChance : Type 0 where
   -- the list follows the rule
   pub ruled : Ruled shape (begin blank) requests (words 0)
 
+-- It comes to that.
 pub worked : WorkedChance
 unfolding computed step allocated released rowIn passing pairs
 worked =

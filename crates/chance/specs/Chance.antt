@@ -59,10 +59,11 @@ state t given freed = record { table = t; given = given; freed = freed }
 abbrev pub begin : Tables → State
 begin t = state (freshTables t) [] []
 
+-- the block that accepted allocation n gave
 abbrev pub givenAt : State → ℕ → Place
 givenAt s n = getD (s .given) n (place 0 0)
 
--- a call's number, and the state after it; a block was given, or goes back, only where the call was accepted
+-- a call's number, and the state after it
 pub record After : Type 0 where
   pub number : ℕ
   pub state : State
@@ -70,11 +71,13 @@ pub record After : Type 0 where
 abbrev pub after : ℕ → State → After
 after number s = record { number = number; state = s }
 
+-- after an allocation: a block was given where it was accepted
 unfoldable pub allocated : State → Outcome → After
 allocated s o =
     after (o .answer .number)
     (state (o .table) (cond (eqb (o .answer .number) 0) (s .given ++ (place (o .answer .span) (o .answer .offset) ∷ [])) (s .given)) (s .freed))
 
+-- after a free: block n went back where it was accepted
 unfoldable pub released : State → ℕ → Outcome → After
 released s n o = after (o .answer .number) (state (o .table) (s .given) (cond (eqb (o .answer .number) 0) (n ∷ s .freed) (s .freed)))
 
@@ -101,6 +104,7 @@ pub record Names (g : Shape) (s : State) (heap n : ℕ) : Type 0 where
   pub earlier : n < length (s .given)
   pub once : heap < g .heaps → Mem n (s .freed) → ⊥
 
+-- the rule for a request; there is none but for frees
 abbrev pub Allowed : Shape → State → Request → Type 0
 Allowed g s (allocating heap size alignment) = Unit
 Allowed g s (freeing heap n) = Names g s heap n

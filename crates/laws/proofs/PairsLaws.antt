@@ -57,7 +57,7 @@ sum-two (suc n) f g h e = omega (arith, sum-two n f g h (λ k l. e k (omega arit
 abbrev pub one : Bool → ℕ
 one b = cond b 1 0
 
-pub one-most : (b : Bool) → one b ≤ 1
+one-most : (b : Bool) → one b ≤ 1
 one-most true = omega arith
 one-most false = omega arith
 
@@ -127,13 +127,14 @@ pairs-rows (suc n) m p = go (p n) (sum n (λ i. sum m (λ j. one (p i)))) (sum n
     go true x y e = omega (arith, sum-ones m (λ j. 1) (λ j l. refl))
     go false x y e = omega (arith, sum-none m (λ j. 0) (λ j l. refl))
 
--- Two tests of which a third tells.
+-- Two tests that pass together at most as often as a third at each pair, pass at most as often in all,
 pub pairs-two-most :
     (n m : ℕ) (f g h : ℕ → ℕ → Bool) → ((i j : ℕ) → i < n → j < m → one (f i j) + one (g i j) ≤ one (h i j)) →
     pairs n m f + pairs n m g ≤ pairs n m h
 unfolding pairs
 pairs-two-most n m f g h e = sum-two-most n _ _ _ (λ i l. sum-two-most m _ _ _ (λ j k. e i j l k))
 
+-- and as often, where they do so at each pair.
 pub pairs-two :
     (n m : ℕ) (f g h : ℕ → ℕ → Bool) → ((i j : ℕ) → i < n → j < m → one (f i j) + one (g i j) ≡ one (h i j)) →
     pairs n m f + pairs n m g ≡ pairs n m h
