@@ -104,10 +104,10 @@ module _ {g : Shape} {t : Tables} (o : Filled g t) {h c : ℕ} (hh : h < g .heap
       (here n) (λ s q i j d. elsewhere n s q j d)
       ∙ omega (arith, cached-first n (omega arith))
 
-  -- the blocks that stand in the magazine
-  cached-all : pairs (t .used) (k .slots) (λ s q. isCached t k (entryOf s q)) ≡ countAt t k
+  -- The blocks that stand in the magazine are as many as its count.
+  pub cached-counted : pairs (t .used) (k .slots) (λ s q. isCached t k (entryOf s q)) ≡ countAt t k
   unfolding isCached
-  cached-all = cached-first (countAt t k) (omega arith)
+  cached-counted = cached-first (countAt t k) (omega arith)
 
   -- ---- cached, out, and the slots of the spans
 
@@ -137,12 +137,12 @@ module _ {g : Shape} {t : Tables} (o : Filled g t) {h c : ℕ} (hh : h < g .heap
       (λ e. rw (out-by-tests s q (passes-belongs l e)) (tests-most (isOccupied t s q) (isPending t s q) (isCached t k (entryOf s q))))
       (others-uncached s q m)
 
-  -- what is cached or out stands in the spans
+  -- What is cached or out stands in the spans.
   pub rows-within : rowIn g t h c .cached + rowIn g t h c .out ≤ rowIn g t h c .spans * k .slots
   unfolding rowIn
   rows-within =
       let a = pairs-two-most (t .used) (k .slots) (λ s q. isCached t k (entryOf s q)) (outTest g h c t) own one-most-of in
-      omega (arith, a, cached-all, own-slots)
+      omega (arith, a, cached-counted, own-slots)
 
   -- ---- where all are
 
@@ -168,9 +168,9 @@ module _ {g : Shape} {t : Tables} (o : Filled g t) {h c : ℕ} (hh : h < g .heap
         rw (out-by-tests s q b, all-occupied s q b m, none-pending s q b m) (tests-all (isCached t k (entryOf s q))))
         (others-uncached s q m)
 
-    -- where every slot of the spans is occupied and none pending, all are cached or out
+    -- Where every slot of the spans is occupied and none pending, all are cached or out.
     pub rows-all : rowIn g t h c .cached + rowIn g t h c .out ≡ rowIn g t h c .spans * k .slots
     unfolding rowIn
     rows-all =
         let a = pairs-two (t .used) (k .slots) (λ s q. isCached t k (entryOf s q)) (outTest g h c t) own all-of in
-        omega (arith, a, cached-all, own-slots)
+        omega (arith, a, cached-counted, own-slots)
