@@ -37,7 +37,7 @@ pub refusal-is : (n : ℕ) (t : Tables) → 0 < n → Refusal t (refused n t)
 refusal-is n t l = record { some = l; is = refl }
 
 -- The class of a request in range is the smallest that fits it.
-range-smallest : (sizes : List ℕ) → Admissible sizes → (size alignment : ℕ) → inRange sizes size alignment ≡ true → Smallest sizes size alignment (smallestClass sizes size alignment)
+pub range-smallest : (sizes : List ℕ) → Admissible sizes → (size alignment : ℕ) → inRange sizes size alignment ≡ true → Smallest sizes size alignment (smallestClass sizes size alignment)
 unfolding inRange
 range-smallest sizes ok size alignment e =
     let r = and-both (leb size (lastSize sizes)) (leb (raised alignment) (lastSize sizes)) e in

@@ -7,3 +7,4 @@ pub mod RunLaws
 pub mod BatchLaws
 pub mod HistoryLaws
 pub mod FreshCall
+pub mod NumberLaws

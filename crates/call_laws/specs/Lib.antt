@@ -4,3 +4,4 @@ pub mod Runs
 pub mod Batches
 pub mod Served
 pub mod Histories
+pub mod Numbers

@@ -1,6 +1,5 @@
--- Demand 1, sentence by sentence, over the definitions that the public contracts cite. "Every input has an answer.": each definition is a function of every
--- input, and no theorem on refusals below asks anything of the tables. What is asked of the shape (`Served`) holds of 01's list and limits for any number
--- of heaps and spans: `base-served`. Assumes nothing.
+-- Demand 1, sentence by sentence, over the definitions that the public contracts cite. What is asked of the shape (`Served`) holds of 01's list and limits
+-- for any number of heaps and spans (`base-served`). Assumes nothing.
 use mathlib.Core.Path.{_≡_, refl, ap, _∙_}
 use mathlib.Core.Bool.{true, false, _&&_}
 use mathlib.Core.List.{List, _∷_, _++_}
@@ -33,11 +32,27 @@ use Rattle.call_laws.specs.Exhausted.{Exhausted}
 use Rattle.call_laws.specs.Runs.{NeverTwice}
 use Rattle.call_laws.specs.Batches.{batchCalls, answerNumbers}
 use Rattle.call_laws.specs.Histories.{Step, historyCalls, historyAnswers, historyTable}
+use Rattle.call_laws.specs.Numbers.{AllocatedWhen, FreedWhen, BatchedWhen, ByTheTable}
+use Rattle.call_laws.proofs.NumberLaws.{allocation-by-table, free-by-table, batch-by-table}
 use Rattle.call_laws.proofs.SingleLaws.{lent-here, allocate-refusal, allocate-accepted, allocate-kept, allocate-six, free-accepted, free-kept}
 use Rattle.call_laws.proofs.RunLaws.{run-kept, never-twice}
 use Rattle.call_laws.proofs.BatchLaws.{batch-refusal, batch-kept, batch-refused-record}
 use Rattle.call_laws.proofs.HistoryLaws.{history-lent, never-twice-history}
 use Rattle.call_laws.proofs.FreshCall.{fresh-kept}
+
+-- ---- "Every input has an answer."
+
+-- Each definition is a function of every input. Whatever is lent, the number is one of 01's table, and is given exactly when its row says.
+pub allocation-answered :
+    {g : Shape} → Served g → (t : Tables) (heap size alignment : ℕ) (words : List ℕ) →
+    ByTheTable (allocate g t heap size alignment words .answer .number) (AllocatedWhen g t heap size alignment words)
+allocation-answered = allocation-by-table
+
+pub free-answered : (g : Shape) (t : Tables) (heap s start : ℕ) → ByTheTable (free g t heap s start .answer .number) (FreedWhen g t heap s start)
+free-answered = free-by-table
+
+pub batch-answered : (g : Shape) (t : Tables) (bytes answers : List ℕ) → ByTheTable (batch g t bytes answers .number) (BatchedWhen g t bytes answers)
+batch-answered = batch-by-table
 
 -- ---- "An unsound lent table is refused, unless the call writes it anew."
 
