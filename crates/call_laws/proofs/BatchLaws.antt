@@ -72,6 +72,11 @@ batch-from-run (suc n) i g t bytes answers =
     batch-from-run n (i + 1) g (o .table) bytes stored
     ∙ ap (λ (at : ℕ). batched 0 (sets stored at (answerNumbers (r .answers))) (r .table)) (answer-next i)
 
+-- The table after them is lent again.
+pub batch-from-lent : {g : Shape} {t : Tables} → Lent g t → (n i : ℕ) (bytes answers : List ℕ) → Lent g (batchFrom n i g t bytes answers .table)
+batch-from-lent {g} {t} x n i bytes answers =
+    subst (Lent g) (sym (ap (λ (b : Batched). b .table) (batch-from-run n i g t bytes answers))) (run-lent (callsFrom n i bytes) x)
+
 -- ---- a batch
 
 -- Bytes that are no whole records, or answers too short for them, are refused with 10.

@@ -13,6 +13,8 @@ use Rattle.laws.proofs.CondLaws.{cond-both}
 use Rattle.laws.proofs.FirstLaws.{tested}
 use Rattle.size_classes.specs.Class.{inRange, smallestClass}
 use Rattle.span.specs.State.{stateOf, isOut}
+use Rattle.size_classes.proofs.SlotTheorems.{Starts}
+use Rattle.outs.specs.Outs.{IsOut}
 use Rattle.tables.specs.Shape.{Shape, classes}
 use Rattle.tables.specs.Cells.{Tables, asStated, freshTables}
 use Rattle.tables.specs.Fresh.{Numbered, numbered, fresh}
@@ -34,6 +36,7 @@ use Rattle.call_laws.specs.Batches.{batchCalls, answerNumbers}
 use Rattle.call_laws.specs.Histories.{Step, historyCalls, historyAnswers, historyTable}
 use Rattle.call_laws.specs.Numbers.{AllocatedWhen, FreedWhen, BatchedWhen, ByTheTable}
 use Rattle.call_laws.proofs.NumberLaws.{allocation-by-table, free-by-table, batch-by-table}
+use Rattle.call_laws.proofs.NamedLaws.{named-starts, named-out, out-named}
 use Rattle.call_laws.proofs.SingleLaws.{lent-here, allocate-refusal, allocate-accepted, allocate-kept, allocate-six, free-accepted, free-kept}
 use Rattle.call_laws.proofs.RunLaws.{run-kept, never-twice}
 use Rattle.call_laws.proofs.BatchLaws.{batch-refusal, batch-kept, batch-refused-record}
@@ -137,6 +140,16 @@ module _ (g : Shape) (t : Tables) (stated : asStated g t ≡ true) (sound : Soun
 
         never : (k : ℕ) → free g t heap s offset .answer .number ≡ suc k → free g t heap s offset .answer .number ≡ 0 → ⊥
         never k e z = omega arith
+
+-- Such a block, said by its slot: a slot of the span starts at the offset, and is out.
+pub names-out-exactly :
+    {g : Shape} → Served g → (t : Tables) → asStated g t ≡ true → Sound g t → (s offset : ℕ) →
+    (NamesOut g t s offset → (q : ℕ) × Starts (slotSizeAt g t s) offset q × IsOut g t s q) ×
+    ((q : ℕ) → Starts (slotSizeAt g t s) offset q → IsOut g t s q → NamesOut g t s offset)
+names-out-exactly {g} w t stated sound s offset = (
+  λ n. (offset / slotSizeAt g t s, named-starts n, named-out n),
+  λ q a i. out-named (lent-here w t stated sound) a i,
+)
 
 -- ---- "A refusal changes no cell of any lent table; in a batch only its own answer is written."
 
