@@ -1,11 +1,10 @@
 -- Demand 1, sentence by sentence, over the definitions that the public contracts cite. What is asked of the shape (`Served`) holds of 01's list and limits
 -- for any number of heaps and spans (`base-served`). Assumes nothing.
-use mathlib.Core.Path.{_≡_, refl, ap, _∙_}
+use mathlib.Core.Path.{_≡_, refl, _∙_}
 use mathlib.Core.Bool.{true, false, _&&_}
 use mathlib.Core.List.{List, _∷_, _++_}
 use mathlib.Core.Logic.{_⊎_, inl, inr, ⊎-elim}
-use Prim.Native.Nat.{ℕ, suc, _*_, _/_, _<_, _≤_}
-use native.Mathlib.Omega.{arith}
+use Prim.Native.Nat.{ℕ, _*_, _/_, _<_, _≤_}
 use lib.ListN.{length, drop}
 use lib.Dec.{eqb, ltb}
 use borrow.Author.Tests.{lt-ltb, eq-eqb}
@@ -34,7 +33,7 @@ use Rattle.call_laws.specs.Exhausted.{Exhausted}
 use Rattle.call_laws.specs.Runs.{NeverTwice}
 use Rattle.call_laws.specs.Batches.{batchCalls, answerNumbers}
 use Rattle.call_laws.specs.Histories.{Step, historyCalls, historyAnswers, historyTable}
-use Rattle.call_laws.specs.Numbers.{AllocatedWhen, FreedWhen, BatchedWhen, ByTheTable}
+use Rattle.call_laws.specs.Numbers.{done, AllocatedWhen, FreedWhen, BatchedWhen, ByTheTable}
 use Rattle.call_laws.proofs.NumberLaws.{allocation-by-table, free-by-table, batch-by-table}
 use Rattle.call_laws.proofs.NamedLaws.{named-starts, named-out, out-named}
 use Rattle.call_laws.proofs.SingleLaws.{lent-here, allocate-refusal, allocate-accepted, allocate-kept, allocate-six, free-accepted, free-kept}
@@ -118,28 +117,13 @@ module _ (g : Shape) (t : Tables) (stated : asStated g t ≡ true) (sound : Soun
         (λ n. inr (inl (on-sound ∙ not-slot n)))
         (tested (namesSlot g t s offset))
 
-    done : freed g t heap s offset .answer .number ≡ 0
-    unfolding freed
-    done = refl
-
     -- Accepted exactly when the span is used, a slot of it starts at the offset, and its block is out.
     pub free-exactly :
         (free g t heap s offset .answer .number ≡ 0 → NamesOut g t s offset) ×
         (NamesOut g t s offset → free g t heap s offset .answer .number ≡ 0)
-    free-exactly = (
-      λ n.
-          ⊎-elim
-          (λ w. w .0)
-          (λ w. ⊎-elim (λ e. absurd (never 6 (number-of e) n)) (λ e. absurd (never 7 (number-of e) n)) w)
-          free-or-refused,
-      λ w. number-of (on-sound ∙ accepted w) ∙ done,
-    )
-      where
-        number-of : {o : Outcome} → free g t heap s offset ≡ o → free g t heap s offset .answer .number ≡ o .answer .number
-        number-of e = ap (λ (x : Outcome). x .answer .number) e
-
-        never : (k : ℕ) → free g t heap s offset .answer .number ≡ suc k → free g t heap s offset .answer .number ≡ 0 → ⊥
-        never k e z = omega arith
+    free-exactly =
+        let table = free-by-table g t heap s offset in
+        (λ n. table .given done n .2, λ n. table .when done (record { stated = stated; sound = sound }, exists, n))
 
 -- Such a block, said by its slot: a slot of the span starts at the offset, and is out.
 pub names-out-exactly :
