@@ -2,15 +2,15 @@
 use mathlib.Core.Path.{_≡_, refl, sym, subst}
 use mathlib.Core.Bool.{true}
 use Prim.Native.Nat.{ℕ, _/_, _%_, _<_}
-use native.Mathlib.Nat.{div-add-mod', mul-mod-left, mul-div-cancel}
+use native.Mathlib.Nat.{div-add-mod'}
 use native.Mathlib.Omega.{arith}
-use borrow.Author.Tests.{eq-eqb, eqb-true, lt-ltb, ltb-true}
+use borrow.Author.Tests.{eqb-true, lt-ltb, ltb-true}
 use lib.Dec.{eqb, ltb}
 use Rattle.laws.proofs.SomeLaws.{and-both}
 use Rattle.size_classes.specs.SlotSizes.{slotSize, leastAlignment}
 use Rattle.size_classes.specs.Slots.{slotsPerSpan, startsSlot}
 use Rattle.size_classes.proofs.SlotSizeLaws.{size-least}
-use Rattle.size_classes.proofs.SlotTheorems.{Starts}
+use Rattle.size_classes.proofs.SlotTheorems.{Starts, accepts-exactly}
 use Rattle.tables.specs.Shape.{Shape, classHeap}
 use Rattle.tables.specs.Cells.{Tables, classAt}
 use Rattle.sound.specs.Sound.{homeOf}
@@ -18,6 +18,7 @@ use Rattle.calls.specs.Calls.{slotSizeAt, namesSlot}
 use Rattle.outs.specs.Outs.{IsOut, SameSpans}
 use Rattle.sound_calls.specs.Lent.{Lent}
 use Rattle.sound_calls.proofs.LentLaws.{lent-class}
+use Rattle.sound_calls.proofs.FreeTests.{starts-at}
 use Rattle.call_laws.specs.Answers.{NamesOut}
 
 -- A slot's start and its number, by division.
@@ -31,15 +32,8 @@ module _ (slot offset : ℕ) where
         inside = ltb-true (offset / slot) (slotsPerSpan slot) (r .1);
       }
 
-  starts-number : {q : ℕ} → 0 < slot → Starts slot offset q → offset / slot ≡ q
-  starts-number {q} pos h = rw (h .at) (mul-div-cancel q pos)
-
-  starts-passes : {q : ℕ} → 0 < slot → Starts slot offset q → startsSlot slot offset ≡ true
-  unfolding startsSlot
-  starts-passes {q} pos h =
-      let m : offset % slot ≡ 0 = rw (h .at) (mul-mod-left q slot) in
-      let l : offset / slot < slotsPerSpan slot = rw (starts-number pos h) (h .inside) in
-      rw (eq-eqb (offset % slot) 0 m, lt-ltb (offset / slot) (slotsPerSpan slot) l)
+  starts-tests : {q : ℕ} → 0 < slot → Starts slot offset q → (startsSlot slot offset ≡ true) × (offset / slot ≡ q)
+  starts-tests {q} pos h = starts-at slot offset q (accepts-exactly slot offset pos q .1 h)
 
 -- A span's slots are those of its slot size.
 home-slots : (g : Shape) (t : Tables) (s : ℕ) → homeOf g t s .slots ≡ slotsPerSpan (slotSizeAt g t s)
@@ -70,15 +64,12 @@ module _ {g : Shape} {t : Tables} (x : Lent g t) {s : ℕ} where
   pub out-named : {offset q : ℕ} → Starts (slotSizeAt g t s) offset q → IsOut g t s q → NamesOut g t s offset
   unfolding namesSlot
   out-named {offset} {q} h i =
-      let pos = size-some (i .used) in
-      record {
-        names = rw (lt-ltb s (t .used) (i .used), starts-passes (slotSizeAt g t s) offset pos h);
-        out = rw (starts-number (slotSizeAt g t s) offset pos h) (i .out);
-      }
+      let r = starts-tests (slotSizeAt g t s) offset (size-some (i .used)) h in
+      record { names = rw (lt-ltb s (t .used) (i .used), r .0); out = rw (r .1) (i .out) }
 
   -- and only that slot is.
   pub named-slot : {offset q : ℕ} → NamesOut g t s offset → Starts (slotSizeAt g t s) offset q → IsOut g t s q
-  named-slot {offset} n h = subst (IsOut g t s) (starts-number (slotSizeAt g t s) offset (size-some (named-used n)) h) (named-out n)
+  named-slot {offset} n h = subst (IsOut g t s) (starts-tests (slotSizeAt g t s) offset (size-some (named-used n)) h .1) (named-out n)
 
 -- A block that is named stays named while its slot stays out.
 pub named-kept :

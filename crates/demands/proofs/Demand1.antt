@@ -63,18 +63,22 @@ module _ (g : Shape) (t : Tables) (stated : asStated g t ≡ true) (unsound : So
   unfolding guarded
   guard-refuses o = rw (stated, unsound-fails g t unsound)
 
+  -- An allocation,
   pub unsound-allocation : (heap size alignment : ℕ) (words : List ℕ) → allocate g t heap size alignment words ≡ refused 2 t
   unfolding allocate
   unsound-allocation heap size alignment words = guard-refuses _
 
+  -- a free,
   pub unsound-free : (heap s offset : ℕ) → free g t heap s offset ≡ refused 2 t
   unfolding free
   unsound-free heap s offset = guard-refuses _
 
+  -- a batch of whole records with room for its answers,
   pub unsound-batch : (bytes answers : List ℕ) → wholeRecords bytes answers ≡ true → batch g t bytes answers ≡ batched 2 answers t
   unfolding batch
   unsound-batch bytes answers whole = rw (stated, whole, unsound-fails g t unsound)
 
+  -- and a summary with room for its records are refused with 2, and nothing is changed.
   pub unsound-summary : (records : List ℕ) → length records ≡ classes g * summaryCells → summary g t records ≡ summed 2 records
   unfolding summary
   unsound-summary records e = rw (stated, eq-eqb (length records) (classes g * summaryCells) e, unsound-fails g t unsound)
@@ -144,6 +148,7 @@ Keeps t o = (o .answer .number ≡ 0 → ⊥) → o ≡ refused (o .answer .numb
 refusal-keeps : (n : ℕ) (t : Tables) → Keeps t (refused n t)
 refusal-keeps n t r = refl
 
+-- A refused free,
 pub free-refusal-keeps : (g : Shape) (t : Tables) (heap s offset : ℕ) → Keeps t (free g t heap s offset)
 unfolding free guarded freeSound freed
 free-refusal-keeps g t heap s offset =
@@ -160,13 +165,14 @@ free-refusal-keeps g t heap s offset =
     (λ _. refusal-keeps 2 t))
     (λ _. refusal-keeps 1 t)
 
+-- a refused making of a fresh table,
 pub fresh-refusal-keeps : (g : Shape) (t : Tables) → (fresh g t .number ≡ 0 → ⊥) → fresh g t ≡ numbered 1 t
 unfolding fresh
 fresh-refusal-keeps g t =
     cond-both (λ (r : Numbered). (r .number ≡ 0 → ⊥) → r ≡ numbered 1 t) (asStated g t) (numbered 0 (freshTables t)) (numbered 1 t)
     (λ e n. absurd (n refl)) (λ e n. refl)
 
--- "On a refusal the records stay."; a summary changes no other cell.
+-- a refused summary ("On a refusal the records stay."; it changes no other cell at all),
 pub summary-refusal-keeps : (g : Shape) (t : Tables) (records : List ℕ) → (summary g t records .number ≡ 0 → ⊥) → summary g t records .records ≡ records
 unfolding summary
 summary-refusal-keeps g t records =
@@ -175,6 +181,7 @@ summary-refusal-keeps g t records =
     (λ a. cond-both P (isSound g t) _ _ (λ b n. absurd (n refl)) (λ b n. refl)) (λ a n. refl)
 
 module _ {g : Shape} (w : Served g) (t : Tables) where
+  -- and a refused allocation change nothing.
   pub allocate-refusal-keeps : (heap size alignment : ℕ) (words : List ℕ) → Keeps t (allocate g t heap size alignment words)
   allocate-refusal-keeps heap size alignment words n = allocate-refusal w t heap size alignment words n .is
 

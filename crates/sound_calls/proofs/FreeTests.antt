@@ -75,7 +75,8 @@ module _ (slot offset : ℕ) where
   starts-not : slotAt slot offset ≡ NoSlot → startsSlot slot offset ≡ false
   starts-not e = sym slot-test ∙ ap is-slot e
 
-  starts-at : (q : ℕ) → slotAt slot offset ≡ Slot q → (startsSlot slot offset ≡ true) × (offset / slot ≡ q)
+  -- An offset that is answered with a slot starts it, and is its number by division.
+  pub starts-at : (q : ℕ) → slotAt slot offset ≡ Slot q → (startsSlot slot offset ≡ true) × (offset / slot ≡ q)
   unfolding slotAt
   starts-at q e = let r : startsSlot slot offset ≡ true = sym slot-test ∙ ap is-slot e in (r, ap slot-in (rw r at e))
 
