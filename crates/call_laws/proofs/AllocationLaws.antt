@@ -6,16 +6,15 @@ use mathlib.Core.List.{List}
 use mathlib.Core.Logic.{_⊎_, inl, inr, ⊎-elim}
 use Prim.Native.Nat.{ℕ, _+_, _*_, _/_, _<_, _≤_}
 use native.Mathlib.Omega.{arith}
-use borrow.Author.Tests.{lt-ltb, ltb-true, le-leb, leb-true}
+use borrow.Author.Tests.{lt-ltb, ltb-true, le-leb}
 use lib.ListN.{length, getD}
 use lib.Dec.{eqb, leb, ltb}
 use Rattle.laws.proofs.CondLaws.{cond-both}
-use Rattle.laws.proofs.SomeLaws.{and-both}
 use Rattle.magazine_layout.specs.Layout.{mostCapacity}
-use Rattle.size_classes.specs.SlotSizes.{slotSize, lastSize, Admissible}
-use Rattle.size_classes.specs.Class.{raised, inRange, smallestClass}
+use Rattle.size_classes.specs.SlotSizes.{slotSize}
+use Rattle.size_classes.specs.Class.{inRange, smallestClass}
 use Rattle.size_classes.specs.Slots.{slotsPerSpan}
-use Rattle.size_classes.proofs.ClassTheorems.{Smallest, smallest}
+use Rattle.size_classes.proofs.ClassTheorems.{Smallest, range-smallest}
 use Rattle.size_classes.proofs.SlotTheorems.{Starts}
 use Rattle.tables.specs.declared.ClassHeap.{ClassHeap}
 use Rattle.tables.specs.Shape.{Shape, classHeap}
@@ -35,13 +34,6 @@ use Rattle.call_laws.proofs.NamedLaws.{named-out, out-named, named-slot
 -- A refusal, by its number.
 pub refusal-is : (n : ℕ) (t : Tables) → 0 < n → Refusal t (refused n t)
 refusal-is n t l = record { some = l; is = refl }
-
--- The class of a request in range is the smallest that fits it.
-pub range-smallest : (sizes : List ℕ) → Admissible sizes → (size alignment : ℕ) → inRange sizes size alignment ≡ true → Smallest sizes size alignment (smallestClass sizes size alignment)
-unfolding inRange
-range-smallest sizes ok size alignment e =
-    let r = and-both (leb size (lastSize sizes)) (leb (raised alignment) (lastSize sizes)) e in
-    smallest sizes ok size alignment (leb-true size (lastSize sizes) (r .0)) (leb-true (raised alignment) (lastSize sizes) (r .1))
 
 -- The words of an allocation in a class: one for each claim, and one for the draw.
 small-words :

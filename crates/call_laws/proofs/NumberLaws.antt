@@ -1,18 +1,18 @@
 -- Every allocation, free and batch is answered by 01's table, each number exactly where its row says. Assumes nothing.
 use mathlib.Core.Path.{_≡_, refl, sym, ap, subst, _∙_}
-use mathlib.Core.Bool.{true, false, and-false, true≢false}
+use mathlib.Core.Bool.{false, true≢false}
 use mathlib.Core.List.{List}
-use mathlib.Core.Logic.{_⊎_, inl, inr, ⊎-elim}
-use Prim.Native.Nat.{ℕ, zero, suc, _/_, _<_, _≤_}
+use mathlib.Core.Logic.{_⊎_, ⊎-elim}
+use Prim.Native.Nat.{ℕ, zero, suc, _/_, _<_}
 use native.Mathlib.Omega.{arith}
 use borrow.Author.Tests.{lt-ltb, le-ltb, ltb-true, ltb-false, le-leb, lt-leb, leb-true, leb-false}
 use lib.ListN.{length}
 use lib.Dec.{leb, ltb}
 use Rattle.laws.proofs.CondLaws.{cond-both}
 use Rattle.laws.proofs.FirstLaws.{tested}
-use Rattle.laws.proofs.SomeLaws.{and-both}
-use Rattle.size_classes.specs.SlotSizes.{lastSize}
-use Rattle.size_classes.specs.Class.{raised, inRange, smallestClass}
+use Rattle.size_classes.specs.Class.{inRange, smallestClass}
+use Rattle.size_classes.proofs.ClassLaws.{range-holds, holds-range, range-fails, fails-range}
+use Rattle.size_classes.proofs.ClassTheorems.{range-smallest}
 use Rattle.tables.specs.Shape.{Shape, classHeap}
 use Rattle.tables.specs.Cells.{Tables, asStated}
 use Rattle.span.specs.State.{stateOf, isOut, outState}
@@ -28,7 +28,6 @@ use Rattle.call_laws.specs.Served.{Served}
 use Rattle.call_laws.specs.Exhausted.{Exhausted}
 use Rattle.call_laws.specs.Numbers.{Reason, done, notStated, unsound, noHeap, fewWords, tooLarge, exhausted, noSlot, notOut, badRecord, notWhole, numberOf, Checked, InOrder, AllocatedWhen, FreedWhen, BatchedWhen, ByTheTable}
 use Rattle.call_laws.proofs.ClassCalls.{alloc-small-cases, six-exhausted, exhausted-six}
-use Rattle.call_laws.proofs.AllocationLaws.{range-smallest}
 use Rattle.call_laws.proofs.SingleLaws.{lent-here}
 
 -- ---- the table
@@ -78,33 +77,6 @@ by-the-table number When f when =
     }
 
 -- ---- allocations
-
--- Size and raised alignment are in range, or one is above the last size.
-module _ (sizes : List ℕ) (size alignment : ℕ) where
-  range-holds : inRange sizes size alignment ≡ true → (size ≤ lastSize sizes) × (raised alignment ≤ lastSize sizes)
-  unfolding inRange
-  range-holds e =
-      let r = and-both (leb size (lastSize sizes)) (leb (raised alignment) (lastSize sizes)) e in
-      (leb-true size (lastSize sizes) (r .0), leb-true (raised alignment) (lastSize sizes) (r .1))
-
-  holds-range : size ≤ lastSize sizes → raised alignment ≤ lastSize sizes → inRange sizes size alignment ≡ true
-  unfolding inRange
-  holds-range a b = rw (le-leb size (lastSize sizes) a, le-leb (raised alignment) (lastSize sizes) b)
-
-  range-fails : inRange sizes size alignment ≡ false → (lastSize sizes < size) ⊎ (lastSize sizes < raised alignment)
-  range-fails e =
-      ⊎-elim
-      (λ a.
-      ⊎-elim
-      (λ b. absurd (true≢false (sym (holds-range (leb-true size (lastSize sizes) a) (leb-true (raised alignment) (lastSize sizes) b)) ∙ e)))
-      (λ b. inr (leb-false (raised alignment) (lastSize sizes) b)) (tested (leb (raised alignment) (lastSize sizes))))
-      (λ a. inl (leb-false size (lastSize sizes) a)) (tested (leb size (lastSize sizes)))
-
-  fails-range : (lastSize sizes < size) ⊎ (lastSize sizes < raised alignment) → inRange sizes size alignment ≡ false
-  unfolding inRange
-  fails-range s =
-      ⊎-elim (λ a. rw (lt-leb size (lastSize sizes) a))
-      (λ b. rw (lt-leb (raised alignment) (lastSize sizes) b, and-false (leb size (lastSize sizes)))) s
 
 module _ {g : Shape} (w : Served g) (t : Tables) (heap size alignment : ℕ) (words : List ℕ) where
   abbrev Allocates : Reason → Type 0

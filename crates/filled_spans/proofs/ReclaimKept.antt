@@ -174,7 +174,7 @@ module _ (g : Shape) (t : Tables) (f : Filled g t) (s : ℕ) (h : s < t .used) w
       so true e = refl
       so false e = absurd (true≢false e)
 
-  unset-slot : hasPending t s ≡ false → (q : ℕ) → q < mostSlots → isPending t s q ≡ false
+  pub unset-slot : hasPending t s ≡ false → (q : ℕ) → q < mostSlots → isPending t s q ≡ false
   unset-slot e q l = ap (λ (z : ℕ). isSet z (q % 64)) (unset-word e (q / 64) (slot-place l)) ∙ zero-clear (q % 64)
 
   -- What holds of a span with none pending, and of the fold, holds where any are folded.

@@ -1,10 +1,13 @@
 -- Laws of sums over the numbers below a bound. Assumes nothing.
-use mathlib.Core.Path.{_≡_, refl, sym, ap, ap₂, _∙_}
+use mathlib.Core.Bool.{Bool, true, false, cond}
+use mathlib.Core.Logic.{⊎-elim}
+use mathlib.Core.Path.{_≡_, refl, sym, ap, ap₂, subst, _∙_}
 use Prim.Native.Nat.{ℕ, zero, suc, _+_, _<_, _≤_}
 use native.Mathlib.Nat.{zero-add, add-zero, add-suc}
-use native.Mathlib.Decide.{ℕ-discrete}
+use native.Mathlib.Decide.{decLt, ℕ-discrete}
 use native.Mathlib.Omega.{arith}
 use Rattle.laws.specs.Choice.{sum}
+use Rattle.laws.proofs.FirstLaws.{tested}
 
 -- A sum of one term.
 pub sum-one : (f : ℕ → ℕ) → sum 1 f ≡ f 0
@@ -34,6 +37,27 @@ pub sum-most : (n : ℕ) (f : ℕ → ℕ) → ((k : ℕ) → f k ≤ 1) → sum
 unfolding sum
 sum-most zero f e = omega arith
 sum-most (suc n) f e = omega (arith, sum-most n f e, e n)
+
+-- One or none is at most one.
+pub one-most : (b : Bool) → cond b 1 0 ≤ 1
+one-most true = omega arith
+one-most false = omega arith
+
+-- Where as many of the numbers below a bound are counted as there are, each is.
+pub all-counted : (b : ℕ → Bool) (n : ℕ) → sum n (λ q. cond (b q) 1 0) ≡ n → (q : ℕ) → q < n → b q ≡ true
+unfolding sum
+all-counted b zero e q l = absurd (let z : ⊥ = omega arith in z)
+all-counted b (suc n) e q l =
+    let f : ℕ → ℕ = λ q. cond (b q) 1 0 in
+    let most = sum-most n f (λ k. one-most (b k)) in
+    let one = one-most (b n) in
+    elim (decLt q n) [
+      | yes y ↦ all-counted b n (omega (arith, e, most, one)) q y
+      | no y ↦
+          let d : q ≡ n = omega arith in
+          subst (λ (x : ℕ). b x ≡ true) (sym d)
+          (⊎-elim (λ h. h) (λ h. absurd (let z : ⊥ = omega (arith, e, most, ap {B = ℕ} (λ (x : Bool). cond x 1 0) h) in z)) (tested (b n)))
+    ]
 
 -- Of two sums whose terms agree but at i, each with the other's term at i.
 pub sum-put :

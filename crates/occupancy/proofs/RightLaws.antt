@@ -13,7 +13,7 @@ use borrow.Author.Tests.{ne-eqb}
 use Rattle.laws.specs.Choice.{sum}
 use Rattle.laws.specs.Word.{allOnes, bitAt, isSet, popcount}
 use Rattle.laws.proofs.CellLaws.{set-at}
-use Rattle.laws.proofs.SumLaws.{sum-same, sum-split, sum-ones, sum-none, sum-most, sum-put}
+use Rattle.laws.proofs.SumLaws.{sum-same, sum-split, sum-ones, sum-none, sum-most, one-most, sum-put}
 use Rattle.laws.proofs.BitLaws.{lt-or-le, bit-cond, ones-sum}
 use Rattle.occupancy.specs.declared.Occupancy.{Occupancy}
 use Rattle.occupancy.specs.Occupied.{occupancy, wordOf, freshWords, freshOf}
@@ -65,11 +65,6 @@ module _ (slots : ℕ) (o : Occupancy) (within : slots ≤ 4096) (past : (q : �
   -- There are at least as many set bits as bits past the last slot.
   pub total-past : 4096 ≤ total o + slots
   total-past = omega (arith, past-sum)
-
--- A term of the count is at most 1.
-one-most : (b : Bool) → cond b 1 0 ≤ 1
-one-most true = omega arith
-one-most false = omega arith
 
 module _ (slots : ℕ) (o : Occupancy) (r : Right slots o) where
   -- The count, and the bits past the last slot, are the set bits.

@@ -1,7 +1,7 @@
 -- Which classes fit a request, and how a search for the smallest ends, over any list of slot sizes. Assumes nothing.
-use mathlib.Core.Bool.{true, false, and-false, true≢false}
+use mathlib.Core.Bool.{true, false, _&&_, and-false, true≢false}
 use mathlib.Core.List.{List}
-use mathlib.Core.Logic.{⊎-elim}
+use mathlib.Core.Logic.{_⊎_, inl, inr, ⊎-elim}
 use mathlib.Core.Path.{_≡_, sym, _∙_}
 use Prim.Native.Nat.{ℕ, _%_, _≤_, _<_}
 use native.Mathlib.Decide.{decLt}
@@ -9,8 +9,9 @@ use native.Mathlib.Nat.{mod-eq-of-lt}
 use native.Mathlib.Omega.{arith}
 use lib.Dec.{leb, eqb}
 use lib.ListN.{length}
-use borrow.Author.Tests.{le-leb, lt-leb, eqb-true, eqb-false, eq-eqb, ne-eqb}
+use borrow.Author.Tests.{le-leb, lt-leb, leb-true, leb-false, eqb-true, eqb-false, eq-eqb, ne-eqb}
 use Rattle.laws.proofs.FirstLaws.{tested, first-is}
+use Rattle.laws.proofs.SomeLaws.{and-both}
 use Rattle.size_classes.specs.declared.ClassFound.the-variants.{Class, TooLarge}
 use Rattle.size_classes.specs.SlotSizes.{slotSize, lastSize}
 use Rattle.size_classes.specs.Class.{raised, fits, inRange, smallestClass, classOf}
@@ -49,6 +50,31 @@ module _ (sizes : List ℕ) (s a k : ℕ) where
       (tested (eqb (slotSize sizes k % a) 0))
 
 module _ (sizes : List ℕ) (s a : ℕ) where
+  -- A request is in range where its size and its raised alignment are at most the last slot,
+  pub range-holds : inRange sizes s a ≡ true → (s ≤ lastSize sizes) × (raised a ≤ lastSize sizes)
+  unfolding inRange
+  range-holds e =
+      let r = and-both (leb s (lastSize sizes)) (leb (raised a) (lastSize sizes)) e in
+      (leb-true s (lastSize sizes) (r .0), leb-true (raised a) (lastSize sizes) (r .1))
+
+  pub holds-range : s ≤ lastSize sizes → raised a ≤ lastSize sizes → inRange sizes s a ≡ true
+  unfolding inRange
+  holds-range hs ha = rw (le-leb s (lastSize sizes) hs, le-leb (raised a) (lastSize sizes) ha)
+
+  -- and is not where one of them is above it.
+  pub range-fails : inRange sizes s a ≡ false → (lastSize sizes < s) ⊎ (lastSize sizes < raised a)
+  range-fails e =
+      ⊎-elim
+      (λ x.
+      ⊎-elim (λ y. absurd (true≢false (sym (holds-range (leb-true s (lastSize sizes) x) (leb-true (raised a) (lastSize sizes) y)) ∙ e)))
+      (λ y. inr (leb-false (raised a) (lastSize sizes) y)) (tested (leb (raised a) (lastSize sizes))))
+      (λ x. inl (leb-false s (lastSize sizes) x)) (tested (leb s (lastSize sizes)))
+
+  pub fails-range : (lastSize sizes < s) ⊎ (lastSize sizes < raised a) → inRange sizes s a ≡ false
+  unfolding inRange
+  fails-range h =
+      ⊎-elim (λ x. rw (lt-leb s (lastSize sizes) x)) (λ y. rw (lt-leb (raised a) (lastSize sizes) y, and-false (leb s (lastSize sizes)))) h
+
   -- A request in range is answered with the smallest class that fits.
   pub in-range : s ≤ lastSize sizes → raised a ≤ lastSize sizes → classOf sizes s a ≡ Class (smallestClass sizes s a)
   unfolding classOf inRange

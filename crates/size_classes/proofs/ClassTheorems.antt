@@ -12,9 +12,9 @@ use Rattle.laws.proofs.FirstLaws.{first-holds, first-le, first-before}
 use Rattle.size_classes.specs.declared.ClassFound.{ClassFound}
 use Rattle.size_classes.specs.declared.ClassFound.the-variants.{Class, TooLarge}
 use Rattle.size_classes.specs.SlotSizes.{slotSize, lastSize, Admissible}
-use Rattle.size_classes.specs.Class.{raised, fits, smallestClass, classOf}
+use Rattle.size_classes.specs.Class.{raised, fits, inRange, smallestClass, classOf}
 use Rattle.size_classes.proofs.RaisedLaws.{last-aligned}
-use Rattle.size_classes.proofs.ClassLaws.{fits-is, fits-holds, fits-aligned, in-range, too-large-size, too-large-align}
+use Rattle.size_classes.proofs.ClassLaws.{fits-is, fits-holds, fits-aligned, range-holds, in-range, too-large-size, too-large-align}
 
 -- class k is "the smallest whose slot is at least the size and a multiple of that alignment"
 pub record Smallest (sizes : List ℕ) (s a k : ℕ) : Type 0 where
@@ -47,6 +47,10 @@ module _ (sizes : List ℕ) (ok : Admissible sizes) (s a : ℕ) where
         aligned = fits-aligned sizes s (raised a) _ p;
         least = λ j l h m. true≢false (sym (fits-is sizes s (raised a) j h m) ∙ first-before f n 0 j (omega arith) l);
       }
+
+  -- So it is where the request is in range.
+  pub range-smallest : inRange sizes s a ≡ true → Smallest sizes s a (smallestClass sizes s a)
+  range-smallest e = let r = range-holds sizes s a e in smallest (r .0) (r .1)
 
   -- The definition gives such an answer, for every request.
   pub answer : Answer sizes s a (classOf sizes s a)

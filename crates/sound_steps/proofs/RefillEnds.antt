@@ -1,33 +1,30 @@
 -- How a refill ends: with a full magazine, or with nothing left to claim; and what nothing left means for the blocks of the class and heap: each is
 -- cached or out, and no span is unused. Assumes nothing.
 use mathlib.Core.Path.{_≡_, refl, sym, ap, subst, _∙_}
-use mathlib.Core.Bool.{Bool, true, false, cond}
+use mathlib.Core.Bool.{true, false, cond}
 use mathlib.Core.List.{List}
 use mathlib.Core.Logic.{_⊎_, inl, inr, ⊎-elim}
 use Prim.Native.Nat.{ℕ, zero, suc, _+_, _<_, _≤_}
 use native.Mathlib.Nat.{lt-of-lt-of-le}
-use native.Mathlib.Decide.{decLt}
 use native.Mathlib.Omega.{arith}
 use borrow.Author.Tests.{eqb-true, eqb-false, ltb-true, ltb-false}
 use lib.Dec.{ltb}
 use lib.ListN.{getD}
-use Rattle.laws.specs.Choice.{sum}
 use Rattle.laws.proofs.CondLaws.{cond-both}
 use Rattle.laws.proofs.FirstLaws.{tested}
-use Rattle.laws.proofs.SumLaws.{sum-most}
+use Rattle.laws.proofs.SumLaws.{all-counted}
 use Rattle.tables.specs.declared.ClassHeap.{ClassHeap}
 use Rattle.tables.specs.Shape.{Shape, classes, classHeap}
 use Rattle.tables.specs.Cells.{Tables, headAt, partialList, countAt}
 use Rattle.span.specs.declared.BlockState.the-variants.{Cached, Out}
 use Rattle.span.specs.State.{isOccupied, isPending, stateOf}
-use Rattle.span.specs.Span.{hasPending, folded}
 use Rattle.class_heap.specs.Steps.{noPartial, replenish, claimFront, refill, refilled, Refilled}
 use Rattle.sound.specs.Sound.{homeOf, setBits, Belongs}
 use Rattle.sound.specs.Filled.{Filled}
 use Rattle.sound.proofs.StateTests.{isKept, cached-so, out-so}
 use Rattle.filled_magazines.proofs.FilledFacts.{belongs-home, capacity-some, count-within}
 use Rattle.filled_spans.proofs.SpanValues.{home-most}
-use Rattle.filled_spans.proofs.ReclaimKept.{folded-none}
+use Rattle.filled_spans.proofs.ReclaimKept.{unset-slot}
 use Rattle.replenishing.proofs.ReplenishingLaws.{replenish-count}
 use Rattle.homes.specs.Homes.{Whole}
 use Rattle.sound_steps.proofs.RefillSteps.{turn-claims}
@@ -35,41 +32,13 @@ use Rattle.sound_steps.proofs.DrySteps.{Dry, replenish-dry}
 
 -- ---- what nothing left means
 
--- one or none
-one-most : (b : Bool) → cond b 1 0 ≤ 1
-one-most true = omega arith
-one-most false = omega arith
-
--- a sum of ones and nones that is as large as can be has a one everywhere
-all-set : (b : ℕ → Bool) (n : ℕ) → sum n (λ q. cond (b q) 1 0) ≡ n → (q : ℕ) → q < n → b q ≡ true
-unfolding sum
-all-set b zero e q l = absurd (let z : ⊥ = omega arith in z)
-all-set b (suc n) e q l =
-    let f : ℕ → ℕ = λ q. cond (b q) 1 0 in
-    let most = sum-most n f (λ k. one-most (b k)) in
-    let one = one-most (b n) in
-    elim (decLt q n) [
-      | yes y ↦ all-set b n (omega (arith, e, most, one)) q y
-      | no y ↦
-          let d : q ≡ n = omega arith in
-          subst (λ (x : ℕ). b x ≡ true) (sym d)
-          (⊎-elim (λ h. h) (λ h. absurd (let z : ⊥ = omega (arith, e, most, ap {B = ℕ} (λ (x : Bool). cond x 1 0) h) in z)) (tested (b n)))
-    ]
-
-module _ (g : Shape) (t : Tables) (o : Filled g t) (s : ℕ) (u : s < t .used) (q : ℕ) (l : q < homeOf g t s .slots) where
-  -- with no pending frees no slot is pending
-  none-waits : hasPending t s ≡ false → isPending t s q ≡ false
-  unfolding folded
-  none-waits e =
-      let r = folded-none g t o s u q (lt-of-lt-of-le l (home-most g t s)) in
-      rw e at r
-
-  -- a block that is taken and not pending is cached or out
-  pub taken-states : isOccupied t s q ≡ true → isPending t s q ≡ false → (stateOf g t s q ≡ Cached) ⊎ (stateOf g t s q ≡ Out)
-  taken-states a b =
-      ⊎-elim (λ c. inl (cached-so g t s q (record { occupied = a; notPending = b; kept = c })))
-      (λ c. inr (out-so g t s q (record { occupied = a; notPending = b; notKept = c })))
-      (tested (isKept g t s q))
+-- A block that is taken and not pending is cached or out.
+taken-states :
+    (g : Shape) (t : Tables) (s q : ℕ) → isOccupied t s q ≡ true → isPending t s q ≡ false → (stateOf g t s q ≡ Cached) ⊎ (stateOf g t s q ≡ Out)
+taken-states g t s q a b =
+    ⊎-elim (λ c. inl (cached-so g t s q (record { occupied = a; notPending = b; kept = c })))
+    (λ c. inr (out-so g t s q (record { occupied = a; notPending = b; notKept = c })))
+    (tested (isKept g t s q))
 
 -- Where there is nothing left, each block of each span of the class and heap is cached or out: none is free, and none is pending.
 pub dry-states :
@@ -80,8 +49,8 @@ dry-states {g} {t} {limit} o h c d s q b l =
     let inside : q < homeOf g t s .slots = rw home l in
     let full : setBits t s (homeOf g t s .slots) ≡ homeOf g t s .slots =
     sym (o .spans s (b .used) .occupied) ∙ d .full s b ∙ ap (λ (k : ClassHeap). k .slots) (sym home) in
-    taken-states g t o s (b .used) q inside (all-set (isOccupied t s) (homeOf g t s .slots) full q inside)
-    (none-waits g t o s (b .used) q inside (d .none s b))
+    taken-states g t s q (all-counted (isOccupied t s) (homeOf g t s .slots) full q inside)
+    (unset-slot g t o s (b .used) (d .none s b) q (lt-of-lt-of-le inside (home-most g t s)))
 
 -- ---- how a refill ends
 
