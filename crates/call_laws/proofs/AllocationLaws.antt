@@ -123,7 +123,7 @@ module _ {g : Shape} {t : Tables} (x : Lent g t) (heap size alignment : ℕ) (wo
     small : Smallest (g .sizes) size alignment class
     small = range-smallest (g .sizes) (x .sizes) size alignment range
 
-    -- "every slot of this heap's spans in the class is out, and no span is unused": 6 exactly then,
+    -- "every slot of this heap's spans in the class is out, and no span is unused": 6 exactly then.
     pub six-exactly-sound :
         (allocateSound g t heap size alignment words .answer .number ≡ 6 → Exhausted g t heap (smallestClass (g .sizes) size alignment)) ×
         (Exhausted g t heap (smallestClass (g .sizes) size alignment) → allocateSound g t heap size alignment words .answer .number ≡ 6)
@@ -131,10 +131,6 @@ module _ {g : Shape} {t : Tables} (x : Lent g t) (heap size alignment : ℕ) (wo
       λ e. six-exhausted x hh (small .class) words (sym (ap (λ (o : Outcome). o .answer .number) in-class) ∙ e) .1,
       λ e. ap (λ (o : Outcome). o .answer .number) in-class ∙ exhausted-six x hh (small .class) words e,
     )
-
-    -- and else a block is given.
-    pub six-or-given : allocateSound g t heap size alignment words .answer .number ≡ 0 → Given g t heap size alignment words (allocateSound g t heap size alignment words)
-    six-or-given z = ⊎-elim (λ a. a) (λ r. absurd (let y : ⊥ = omega (arith, z, r .some) in y)) allocate-sound-cases
 
 -- ---- the block that is given, by its span and its offset
 
