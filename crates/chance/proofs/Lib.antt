@@ -1,7 +1,6 @@
 pub mod RowTests
 pub mod CachedCounts
 pub mod ModelLaws
-pub mod Borrowed
 pub mod RefillCounts
 pub mod OtherCounts
 pub mod RowSteps

@@ -39,7 +39,7 @@ use Rattle.sound_steps.proofs.RefillSteps.{turn-claims, refill-whole, whole-fro
 use Rattle.chance.specs.Counts.{stock, refillCount}
 use Rattle.chance.specs.Chance.{rowIn}
 use Rattle.laws.proofs.PairsLaws.{one}
-use Rattle.chance.proofs.Borrowed.{refill-takes-all}
+use Rattle.sound_steps.proofs.RefillEnds.{refill-takes-all}
 use Rattle.chance.proofs.RowTests.{belongs-passes, same-spans, one-span, same-out}
 use Rattle.chance.proofs.CachedCounts.{rows-within, rows-all}
 use Rattle.chance.proofs.ModelLaws.{Held, Grown, Kept, refill-is-count}
@@ -274,4 +274,4 @@ module _ (g : Shape) (h c : ℕ) (hh : h < g .heaps) (hc : c < classes g) where
             refill-is-count limit k (rowIn g t h c) (rowIn g last h c) (t .used) (last .used) (capacity-in-span g h c) (whole-held o) (whole-held refilled-whole)
             (same-out g h c refilled-outs) (refill-makes (k .capacity) o ws 0 .grew)
             (⊎-elim (λ e. inl (omega (arith, e, n))) (λ d. inr (record { all = dry-all refilled-whole d; unused = d .used }))
-            (refill-takes-all g h c hh hc limit few (k .capacity) o (omega arith) ws 0))
+            (refill-takes-all hh hc limit few (k .capacity) o (omega arith) ws 0))
