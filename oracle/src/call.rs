@@ -37,6 +37,8 @@ impl Call {
     }
 }
 
+/// In the order in which the library answers.
+#[repr(C)]
 #[derive(Clone, Copy, Debug, Default, PartialEq, Eq)]
 pub struct Answer {
     pub number: u64,

@@ -197,6 +197,10 @@ impl Driver {
         was_out
     }
 
+    pub fn spans_used(&self) -> u64 {
+        self.spans.len() as u64
+    }
+
     /// Class and owner of a span in use.
     pub fn class_and_owner(&self, span: u64) -> (usize, u64) {
         let seen = &self.spans[span as usize];

@@ -12,6 +12,8 @@ mod utils;
 
 // The harness.
 mod call;
+#[cfg(linked_call_leaves)]
+mod calls;
 mod clauses;
 #[cfg(linked_leaves)]
 mod compare;
@@ -20,11 +22,17 @@ mod cover;
 mod damage;
 mod driver;
 mod generate;
+#[cfg(linked_call_leaves)]
+mod lent;
 mod mixes;
+#[cfg(linked_call_leaves)]
+mod patterns;
 mod play;
 mod random;
 mod recipe;
 mod record;
+#[cfg(linked_call_leaves)]
+mod refusals;
 mod run;
 mod sanity;
 mod selftest;
@@ -53,6 +61,8 @@ fn main() {
         ["compare", operations] => compare::command(operations),
         #[cfg(linked_check_leaf)]
         ["damage", lists] => damage::command(lists),
+        #[cfg(linked_call_leaves)]
+        ["calls", calls, seed] => calls::command(calls, seed),
         _ => Err(USAGE.to_string()),
     };
     if let Err(message) = outcome {

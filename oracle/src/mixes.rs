@@ -142,7 +142,7 @@ fn small_align(random: &mut Random) -> u64 {
 }
 
 /// A size that the class is the tightest for; its ends come often.
-fn size_of_class(class: usize, random: &mut Random) -> u64 {
+pub fn size_of_class(class: usize, random: &mut Random) -> u64 {
     let high = door::slot_size(class) as u64;
     let low = match class {
         0 => 0,

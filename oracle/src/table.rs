@@ -34,7 +34,7 @@ impl Table {
         }
     }
 
-    fn parts(&self) -> [(&'static str, &[u64]); 4] {
+    pub fn parts(&self) -> [(&'static str, &[u64]); 4] {
         [
             ("bits", &self.bits),
             ("spans", &self.spans),

@@ -11,7 +11,9 @@ pub(crate) mod door {
     };
     use crate::utils::linked_list::LinkedListNode;
 
-    pub use super::non_crypto_rng::{script_from_seed, script_from_words, words_used};
+    pub use super::non_crypto_rng::{
+        script_from_seed, script_from_words, words_used, STEP, WORDS_LENT,
+    };
     pub use size_classes::SIZE_CLASS_COUNT;
     pub use span::Bare;
 
