@@ -65,7 +65,7 @@ impl Plan {
     /// Spans of many words, emptied word by word, are what a refill of 65 words needs.
     fn of_mix(mix: &Mix, round: u64, random: &mut Random) -> Self {
         let plan = Self::new(round, random);
-        if mix.name != "scatter" || round % 4 != 0 {
+        if mix.name != "scatter" || round % 2 != 0 {
             return plan;
         }
         Self {
@@ -99,10 +99,14 @@ struct Counts {
     refills: u64,
     flushes: u64,
     spans_created: u64,
+    most_spans: u64,
+    /// Lists at whose end no span was unused.
+    all_spans_used: u64,
     most_words: u64,
     classes: BTreeSet<usize>,
     heaps: BTreeSet<u64>,
-    spans: BTreeSet<u64>,
+    heaps_lent: BTreeSet<u64>,
+    spans_lent: BTreeSet<u64>,
     large_table_calls: u64,
     tables: u64,
     cells: u64,
@@ -281,13 +285,16 @@ impl Counts {
             since: 0,
             refused: HashSet::new(),
         };
-        self.spans.insert(plan.spans);
+        self.heaps_lent.insert(plan.heaps);
+        self.spans_lent.insert(plan.spans);
         // A fresh table on both sides, before the first call.
         pair.compare(self, &Driver::fresh(plan.heaps, plan.spans)?)?;
         let played = play::play_seen(list, |driver, call, theirs| {
             pair.step(self, driver, call, theirs)
         })?;
         self.spans_created += played.table.used;
+        self.most_spans = self.most_spans.max(played.table.used);
+        self.all_spans_used += (played.table.used == plan.spans) as u64;
         self.tables += 1;
         self.cells += pair.lent.cells();
         pair.lent
@@ -296,7 +303,6 @@ impl Counts {
     }
 
     fn print(&self) {
-        let ends = |set: &BTreeSet<u64>| (set.first().copied(), set.last().copied());
         let lines = [
             ("lists", self.lists),
             ("calls compared", self.calls),
@@ -313,17 +319,21 @@ impl Counts {
             ("refills", self.refills),
             ("flushes", self.flushes),
             ("spans created", self.spans_created),
+            ("most spans used", self.most_spans),
+            ("lists that used every span lent", self.all_spans_used),
             ("most words used", self.most_words),
             ("classes", self.classes.len() as u64),
-            ("heaps", self.heaps.len() as u64),
+            ("heaps that called", self.heaps.len() as u64),
             ("tables compared", self.tables),
             ("cells compared", self.cells),
         ];
         lines
             .iter()
             .for_each(|(name, count)| println!("{name}: {count}"));
-        if let (Some(least), Some(most)) = ends(&self.spans) {
-            println!("spans lent: {least} to {most}");
+        for (name, lent) in [("heaps", &self.heaps_lent), ("spans", &self.spans_lent)] {
+            if let (Some(least), Some(most)) = (lent.first(), lent.last()) {
+                println!("{name} lent: {least} to {most}");
+            }
         }
         println!(
             "calls the original was not asked, each refused as the scope says, no cell changed:"
@@ -361,12 +371,13 @@ impl Counts {
     }
 }
 
-/// Whole rounds, one list of each mix and pattern in a round, until so many calls were compared.
+/// Whole rounds, one list of each mix and pattern in a round, until so many calls were compared or a
+/// round showed a difference.
 pub fn command(calls: &str, first: &str) -> Result<(), String> {
     let (calls, first) = (number(calls)?, number(first)?);
     let mut counts = Counts::default();
     let mut seed = first;
-    while seed == first || counts.calls < calls {
+    while seed == first || (counts.calls < calls && counts.differences == 0) {
         let round = seed - first;
         let mut random = Random::new(seed);
         for mix in &MIXES {

@@ -1,6 +1,6 @@
 //! "What comes back": the scope's table of refusals, read for single calls on a sound table, and calls
-//! by chance for it. It knows what is out from the answers alone and looks at no cell, so it is a second
-//! opinion on the library wherever the original cannot be asked.
+//! by chance for it. It knows what is out from the answers, and which spans are in use from the original;
+//! it looks at no cell of the library's, so it is a second opinion where the original cannot be asked.
 
 use std::collections::HashSet;
 
