@@ -66,7 +66,7 @@ fn add(out: &mut [u64], c: u64, f: u64, v: u64)
 }
 
 // The pending slots of span s.
-fn pending(bits: &[u64], s: u64) -> u64
+pub fn pending(bits: &[u64], s: u64) -> u64
     requires { ⌜ WordCells (now bits) s ⌝ }
     ensures { λ r. ⌜ r ≡ pendingIn (now (bits .entry)) s 64 ⌝ }
 {
