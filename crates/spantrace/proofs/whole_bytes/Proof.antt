@@ -6,17 +6,10 @@ use Rattle.calls.specs.Batch.{recordBytes}
 use borrow.Author.Needs.{needs}
 use Rattle.spantrace.proofs.whole_bytes.Statement.{statement}
 use Rattle.spantrace.proofs.whole_bytes.Tie as tie
-use Rattle.spantrace.proofs.whole_bytes.Reads as reads
-use Rattle.spantrace.proofs.whole_bytes.Lts as lts
 
--- src/main.rt:107:5
-mul-result : tie.Need-mul-result
-mul-result c = search needs
-
--- src/main.rt:103:1
 returns : tie.Need-returns
 unfolding recordBytes
 returns c = (counts _ _ (omega arith), refl)
 
 pub whole-bytes-spec : {M : Type 1} → statement M
-whole-bytes-spec = tie.close (tie.spec mul-result returns)
+whole-bytes-spec = tie.close (tie.spec (λ c. search needs) returns)
