@@ -2,3 +2,4 @@ pub mod Worked
 pub mod Demand1
 pub mod Demand2
 pub mod OneAnswer
+pub mod Demand3
