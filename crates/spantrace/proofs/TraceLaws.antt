@@ -1,6 +1,6 @@
--- Laws of a span's line: its place by the tests of the code, and one entry more. Assumes nothing.
+-- Laws of the lines: a span's place by the tests of the code, one entry more, the cells of a class; one part of a line after another. Assumes nothing.
 use mathlib.Core.Path.{_≡_, refl, sym, ap, ap₂, subst, _∙_}
-use mathlib.Core.List.{List}
+use mathlib.Core.List.{List, _++_}
 use Prim.Native.Nat.{ℕ, _+_, _*_, _<_, _≤_}
 use native.Mathlib.Omega.{arith}
 use borrow.Author.Tests.{eq-eqb, ne-eqb}
@@ -15,6 +15,8 @@ use Rattle.tables.specs.declared.ClassHeap.{ClassHeap}
 use Rattle.tables.specs.Shape.{shape, mostHeaps, mostSpans, baseShape, headCells, rowOf, baseOf, classHeap}
 use Rattle.tables.specs.Cells.{headCell, entrySpan}
 use Rattle.tables.proofs.MagazineCells.{base-within}
+use Rattle.trace_text.specs.Wrote.{Wrote}
+use Rattle.trace_text.proofs.Writing.{wrote-then}
 use Rattle.spantrace.specs.Trace.{placeOf, naming, namedIn}
 
 module _ (slots occupied kept s : ℕ) where
@@ -95,3 +97,13 @@ home-here k sizes owner class e r o c =
 pub head-here : {k : ClassHeap} {f n : ℕ} → Home k → f < 5 → 960 ≤ n → headCell (k .row) f < n
 unfolding headCell headCells
 head-here h f n = omega (arith, h .row, f, n)
+
+-- A part of a line was written, and the text is as long as it was.
+pub record Written (l : List ℕ) (at : ℕ) (t m : List ℕ) (r : ℕ) : Type 0 where
+  pub same : length m ≡ length l
+  pub wrote : Wrote l at t m r
+
+pub written-then :
+    {l m n : List ℕ} {at p r : ℕ} {s : List ℕ} (t : List ℕ) → Written l at s m p → length n ≡ length m → Wrote m p t n r → Written l at (s ++ t) n r
+written-then {l} {m} {n} {at} {p} {r} {s} t w e more =
+    record { same = e ∙ w .same; wrote = wrote-then l m n at p r s t (w .same) (w .wrote) more }

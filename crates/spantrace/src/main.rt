@@ -6,7 +6,7 @@ ghost use Prim.Native.Nat.{_+_, _*_, _/_, _<_, _≤_};
 ghost use lib.ListN.{length};
 ghost use Rattle.io.specs.Counts.{Counts};
 ghost use Rattle.calls.specs.Batch.{recordBytes};
-ghost use Rattle.spantrace.specs.Trace.{placeOf, naming, namedIn};
+ghost use Rattle.spantrace.specs.Trace.{WroteAnswer, placeOf, naming, namedIn};
 
 // The tables of 4 heaps and 32 spans have 4160 bitmap words, 160 record cells, 3168 entries and 960 heads.
 const HEAPS: u64 = 4;
@@ -42,12 +42,20 @@ const CHUNK_TEXT: usize = 32832;
 const LAST_TEXT: usize = 4224;
 
 // The line of one record: its number from 1 on, the answer's number, span and offset.
-fn answer_line(out: &mut [u8], at: usize, record: u64, number: u64, span: u64, offset: u64) -> usize
+fn answer_line(
+    out: &mut [u8],
+    at: usize,
+    ordinal: u64,
+    number: u64,
+    span: u64,
+    offset: u64,
+) -> usize
     ensures { λ r. ⌜ Counts r (now (out .exit)) ⌝ }
     ensures { λ _. ⌜ length (now (out .exit)) ≡ length (now (out .entry)) ⌝ }
+    ensures { λ r. ⌜ WroteAnswer (now (out .entry)) at ordinal number span offset (now (out .exit)) r ⌝ }
 {
     let a = trace_text::put(out, at, b'A');
-    let b = trace_text::put_field(out, a, record);
+    let b = trace_text::put_field(out, a, ordinal);
     let c = trace_text::put_field(out, b, number);
     let d = trace_text::put_field(out, c, span);
     let e = trace_text::put_field(out, d, offset);
@@ -58,7 +66,7 @@ fn answer_line(out: &mut [u8], at: usize, record: u64, number: u64, span: u64, o
 fn chunk_line(
     out: &mut [u8],
     at: usize,
-    record: u64,
+    ordinal: u64,
     refusal: u64,
     answers: &[u64; 1536],
     i: usize,
@@ -68,13 +76,13 @@ fn chunk_line(
     ensures { λ _. ⌜ length (now (out .exit)) ≡ length (now (out .entry)) ⌝ }
 {
     if refusal != 0 {
-        return answer_line(out, at, record, refusal, 0, 0);
+        return answer_line(out, at, ordinal, refusal, 0, 0);
     }
     let first = i * 3;
     let number = answers[first];
     let span = answers[first + 1];
     let offset = answers[first + 2];
-    answer_line(out, at, record, number, span, offset)
+    answer_line(out, at, ordinal, number, span, offset)
 }
 
 // The lines of so many answers of a chunk.
