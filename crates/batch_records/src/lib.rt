@@ -1,4 +1,6 @@
 // A batch's records taken apart: numbers from bytes, and the words of a seed.
+#![tactic(auto)]
+
 ghost use Rattle.std.specs.Prelude.{◌≡◌, ◌+◌, ◌^◌, ◌<◌, ◌≤◌, length, slice_index};
 ghost use Rattle.calls.specs.Calls.{words_needed};
 ghost use Rattle.calls.specs.Batch.{little_endian, words_from};

@@ -1,4 +1,6 @@
 // A batch on a table that is known to be sound: records of 28 bytes, answered one after the other.
+#![tactic(auto)]
+
 ghost use Rattle.std.specs.Prelude.{◌≡◌, [], ◌∷◌, ℕ, ◌+◌, ◌*◌, ◌/◌, ◌<◌, ◌≤◌, length};
 ghost use Rattle.std.proofs.lemmas.List.Edits.{sets};
 ghost use Rattle.class_lookup.specs.Lookup.{ClassTables};

@@ -1,4 +1,6 @@
 // Words of 64 bits: one bit, all bits from one on, how many are set, rotations, and the lowest set bits.
+#![tactic(auto)]
+
 ghost use Rattle.std.specs.Prelude.{◌≡◌, ℕ, ◌-◌, ◌^◌, ◌≤◌, ◌<◌};
 ghost use Rattle.laws.specs.Word.{popcount, is_set, set_bit, clear_bit};
 ghost use Rattle.bits.specs.Deposit.{lowest};

@@ -1,4 +1,6 @@
 // The public calls as C calls them: for the comparison of every answer and cell with the original.
+#![tactic(auto)]
+
 ghost use Rattle.std.specs.Prelude.{◌≡◌};
 ghost use Rattle.tables.specs.Shape.{base_shape};
 ghost use Rattle.tables.specs.Cells.{tables as table};

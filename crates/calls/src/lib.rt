@@ -1,4 +1,5 @@
 // The calls as definitions, and what each answers.
+#![tactic(auto)]
 
 // What a call answers: its number, and for an accepted one the block and the number of words used.
 #[repr(C)]

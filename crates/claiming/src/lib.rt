@@ -1,4 +1,6 @@
 // One claim of the front partial span, its slots into the magazine, and the span to full if it became full.
+#![tactic(auto)]
+
 ghost use Rattle.std.specs.Prelude.{◌≡◌, List, ℕ, ◌<◌};
 ghost use Rattle.tables.specs.Cells.{tables as table};
 ghost use Rattle.linked_list.specs.Reach.{Links};

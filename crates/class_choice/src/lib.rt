@@ -1,4 +1,6 @@
 // Class choice: which class serves a request, by the lookup table and then by alignment.
+#![tactic(auto)]
+
 ghost use Rattle.std.specs.Prelude.{◌≡◌, ◌<◌, max, get_or};
 ghost use Rattle.size_classes.specs.SlotSizes.{slot_sizes};
 ghost use Rattle.size_classes.specs.Class.{class_of, lookup_entries};

@@ -1,4 +1,6 @@
 // The lookup table: the class of each size to 131072, by sixteens.
+#![tactic(auto)]
+
 ghost use Rattle.std.specs.Prelude.{◌≡◌};
 ghost use Rattle.size_classes.specs.SlotSizes.{slot_sizes};
 ghost use Rattle.class_lookup.specs.Lookup.{lookup_table};

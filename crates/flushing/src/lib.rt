@@ -1,4 +1,6 @@
 // Slots of a magazine back to their spans, from the top down to low water.
+#![tactic(auto)]
+
 ghost use Rattle.std.specs.Prelude.{◌≡◌, List, ℕ, ◌<◌};
 ghost use Rattle.tables.specs.Cells.{tables as table};
 ghost use Rattle.magazine.specs.Room.{count_in};

@@ -1,4 +1,6 @@
 // Whether the lent tables are as stated, and the fresh-table maker.
+#![tactic(auto)]
+
 ghost use Rattle.std.specs.Prelude.{◌≡◌, List, ℕ, ◌^◌, ◌≤◌, length, replicate};
 ghost use Rattle.size_classes.specs.SlotSizes.{Admissible};
 ghost use Rattle.tables.specs.Shape.{shape, most_heaps};

@@ -1,4 +1,6 @@
 // One heap: allocate from a class, and free by the owner.
+#![tactic(auto)]
+
 ghost use Rattle.std.specs.Prelude.{◌≡◌, List, ℕ, ◌<◌, ◌≤◌, length};
 ghost use Rattle.size_classes.specs.SlotSizes.{largest_slot};
 ghost use Rattle.magazine_layout.specs.Layout.{most_capacity};

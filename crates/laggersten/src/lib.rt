@@ -1,4 +1,6 @@
 // The public calls: fresh, allocate, free, batch and class summary, with every refusal.
+#![tactic(auto)]
+
 ghost use Rattle.std.specs.Prelude.{◌≡◌};
 ghost use Rattle.tables.specs.Shape.{base_shape};
 ghost use Rattle.tables.specs.Cells.{tables as table};

@@ -1,4 +1,6 @@
 // The leaves as C calls them, with their answers as plain numbers: for the comparison of compiled code with the original.
+#![tactic(auto)]
+
 ghost use Rattle.std.specs.Prelude.{◌≡◌, List, ℕ, ◌≤◌, ◌<◌, get_or};
 ghost use Rattle.size_classes.specs.SlotSizes.{slot_sizes};
 ghost use Rattle.size_classes.specs.Class.{class_of};

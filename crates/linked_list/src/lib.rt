@@ -1,4 +1,6 @@
 // Doubly linked lists of spans, by span numbers as links: 0 for none, and s + 1 for span s.
+#![tactic(auto)]
+
 ghost use Rattle.std.specs.Prelude.{◌≡◌, cond, List, ℕ, ◌-◌, ◌<◌, ◌≤◌, length, get_or, set, eqb};
 ghost use Rattle.tables.specs.Cells.{tables as table, span_cell, previous_field, next_field, head_cell, reserve};
 ghost use Rattle.linked_list.specs.Lists.{set_linked, set_links, push as pushed, remove as removed, pop as popped};

@@ -1,4 +1,6 @@
 // The magazine of one class of one heap: push, pop, draw, and whether an entry is cached.
+#![tactic(auto)]
+
 ghost use Rattle.std.specs.Prelude.{◌≡◌, List, ℕ, ◌<◌};
 ghost use Rattle.tables.specs.Cells.{tables as table, entry_at};
 ghost use Rattle.magazine.specs.Magazine.{needs_refill, is_full, push_entry, top_entry, pop_entry, drawn_at, draw_entry, is_cached};

@@ -1,4 +1,6 @@
 // Where a heap's magazines stand among its entries: capacity, low water and offset of each class.
+#![tactic(auto)]
+
 ghost use Rattle.std.specs.Prelude.{◌≡◌, ◌<◌, ◌≤◌, length};
 ghost use Rattle.size_classes.specs.SlotSizes.{Admissible};
 ghost use Rattle.magazine_layout.specs.Layout.{capacity_for, low_water_for, magazine_offset, entries_per_heap};

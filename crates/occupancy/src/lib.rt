@@ -1,4 +1,6 @@
 // One span's occupancy by value: a fresh one, a claim, releases, and the fold of pending frees. A set bit is a slot that is taken.
+#![tactic(auto)]
+
 ghost use Rattle.std.specs.Prelude.{◌≡◌, ℕ, ◌-◌, ◌%◌, ◌^◌, ◌≤◌, ◌<◌, length};
 ghost use Rattle.occupancy.specs.Occupied.{window_of, fresh_of, claim, release_slot, release_slots_by_word, fold_in};
 ghost use Rattle.occupancy.specs.Right.{is_taken, Right, Held, Pending, first_clear};

@@ -1,4 +1,6 @@
 // Where a span of one class goes by its count, and the reserve or an empty span back to partial.
+#![tactic(auto)]
+
 ghost use Rattle.std.specs.Prelude.{◌≡◌, List, ℕ, ◌+◌, ◌<◌, ◌≤◌, get_or};
 ghost use Rattle.tables.specs.Cells.{tables as table, head_cell, reserve, empty_list};
 ghost use Rattle.linked_list.specs.Reach.{Links};

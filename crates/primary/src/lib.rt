@@ -1,4 +1,6 @@
 // Routing of frees: to the owner's magazine, or to the pending bits of the span.
+#![tactic(auto)]
+
 ghost use Rattle.std.specs.Prelude.{◌≡◌, ℕ};
 ghost use Rattle.tables.specs.Cells.{tables as table};
 ghost use Rattle.calls.specs.Primary.{dealloc_small};

@@ -1,4 +1,6 @@
 // The walk over the full spans of one class: pending frees folded in, and each span freed by them placed.
+#![tactic(auto)]
+
 ghost use Rattle.std.specs.Prelude.{◌≡◌, List, ℕ, ◌<◌, get_or};
 ghost use Rattle.tables.specs.Cells.{tables as table, head_cell, full_list};
 ghost use Rattle.class_heap.specs.Steps.{reclaim_one, reclaim as reclaimed};

@@ -1,4 +1,6 @@
 // The refill of a magazine, claim by claim, until it is full or no span can be had.
+#![tactic(auto)]
+
 ghost use Rattle.std.specs.Prelude.{◌≡◌, ℕ, ◌<◌, ◌≤◌, length, get_or};
 ghost use Rattle.tables.specs.Cells.{tables as table};
 ghost use Rattle.class_heap.specs.Steps.{refilled, refill as refills};

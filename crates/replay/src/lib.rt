@@ -1,1 +1,2 @@
 // Recorded answers and tables of the original, held against the definitions by computation. No code.
+#![tactic(auto)]

@@ -1,4 +1,6 @@
 // A partial span at the front of a class of a heap, if one can be had.
+#![tactic(auto)]
+
 ghost use Rattle.std.specs.Prelude.{◌≡◌, List, ℕ, ◌<◌, length};
 ghost use Rattle.tables.specs.Cells.{tables as table, head_cell, empty_list, reserve};
 ghost use Rattle.class_heap.specs.Steps.{none_empty, create as created, supply as supplied, replenish as replenished};

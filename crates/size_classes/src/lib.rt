@@ -1,19 +1,21 @@
 // Size classes: the slot sizes, how an alignment is raised, how many slots a span has, and which slot starts at an offset.
 // Which class serves a request is chosen in `class_choice`, by the table of `class_lookup`.
+#![tactic(auto)]
+
 ghost use Rattle.std.specs.Prelude.{◌≡◌, ◌<◌, ◌≤◌, ◌^◌};
 ghost use Rattle.size_classes.specs.SlotSizes.{slot_sizes, largest_slot};
 ghost use Rattle.size_classes.specs.Class.{raised};
 ghost use Rattle.size_classes.specs.Slots.{slots_per_span, span_length, slot_at};
 
 // The class of a request, or that it is above the largest slot.
-#[derive(Drop)]
+#[derive(Clone, Copy)]
 pub enum ClassFound {
     Class(u64),
     TooLarge,
 }
 
 // The slot that starts at an offset in a span, or that none does.
-#[derive(Drop)]
+#[derive(Clone, Copy)]
 pub enum SlotFound {
     Slot(u64),
     NoSlot,

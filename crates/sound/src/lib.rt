@@ -1,1 +1,2 @@
 // The soundness of a lent table.
+#![tactic(auto)]

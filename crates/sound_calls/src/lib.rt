@@ -1,4 +1,6 @@
 // Allocate and free on a table that is known to be sound: every answer but 1 and 2, and no check paid.
+#![tactic(auto)]
+
 ghost use Rattle.std.specs.Prelude.{◌≡◌, ℕ};
 ghost use Rattle.class_lookup.specs.Lookup.{ClassTables};
 ghost use Rattle.tables.specs.Shape.{shape};

@@ -1,4 +1,6 @@
 // The check of a whole table: every used span, and the lists and the magazine of every class of every heap.
+#![tactic(auto)]
+
 ghost use Rattle.std.specs.Prelude.{◌≡◌, ℕ, ◌<◌, ◌≤◌, length};
 ghost use Rattle.laws.specs.Choice.{Says};
 ghost use Rattle.size_classes.specs.SlotSizes.{Admissible};

@@ -1,4 +1,6 @@
 // The check of the lists: each is walked once from its head, and the spans met are counted.
+#![tactic(auto)]
+
 ghost use Rattle.std.specs.Prelude.{List, ℕ, ◌+◌, ◌*◌, ◌<◌, length};
 ghost use Rattle.laws.specs.Choice.{Says};
 ghost use Rattle.tables.specs.Cells.{tables as table, head_cell};

@@ -1,4 +1,6 @@
 // The check of one magazine: its count, each entry below the count, and that no entry stands there twice.
+#![tactic(auto)]
+
 ghost use Rattle.std.specs.Prelude.{List, ℕ, ◌+◌, ◌<◌, ◌≤◌, length};
 ghost use Rattle.laws.specs.Choice.{Says};
 ghost use Rattle.tables.specs.Cells.{tables as table};

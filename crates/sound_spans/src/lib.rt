@@ -1,4 +1,6 @@
 // The check of the cells of every used span: class, owner, summaries, pending bits, bits past the last slot and the occupied count.
+#![tactic(auto)]
+
 ghost use Rattle.std.specs.Prelude.{◌≡◌, List, ℕ, ◌<◌};
 ghost use Rattle.laws.specs.Choice.{Says};
 ghost use Rattle.size_classes.specs.SlotSizes.{Admissible};

@@ -1,4 +1,6 @@
 // One span in the lent cells: its occupancy loaded and stored, its pending frees, and the state of a block.
+#![tactic(auto)]
+
 ghost use Rattle.std.specs.Prelude.{◌≡◌, List, [], ◌∷◌, ◌++◌, ℕ, ◌+◌, ◌≤◌, ◌<◌, length, take, drop, replicate};
 ghost use Rattle.std.proofs.Math.Seq.{paste};
 ghost use Rattle.std.proofs.lemmas.List.Edits.{sets};
@@ -13,7 +15,7 @@ use occupancy::Occupancy;
 use tables::ClassHeap;
 
 // "A block is free (bit clear), cached (in its owner's magazine), pending, or out (occupied, neither cached nor pending)."
-#[derive(Drop)]
+#[derive(Clone, Copy)]
 pub enum BlockState {
     Free,
     Cached,

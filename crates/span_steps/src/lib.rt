@@ -1,4 +1,6 @@
 // The steps of one span in the lent cells: a slot released, pending frees folded in, a claim.
+#![tactic(auto)]
+
 ghost use Rattle.std.specs.Prelude.{◌≡◌, List, ℕ, ◌+◌, ◌*◌, ◌^◌, ◌≤◌, ◌<◌, length, get_or};
 ghost use Rattle.size_classes.specs.Slots.{most_slots};
 ghost use Rattle.occupancy.specs.Occupied.{claim as claim_of, fold_in};

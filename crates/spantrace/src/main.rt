@@ -1,4 +1,6 @@
 // Reads batch records from standard input to its end, performs them on a fresh table of 4 heaps and 32 spans, and prints a line for each record and for each used span.
+#![tactic(auto)]
+
 ghost use Rattle.std.specs.Prelude.{◌≡◌, ◌+◌, ◌*◌, ◌/◌, ◌<◌, ◌≤◌, length};
 ghost use Rattle.io.specs.Counts.{IsPrefixLen};
 ghost use Rattle.calls.specs.Batch.{record_bytes};

@@ -1,4 +1,6 @@
 // The class summary as 01 names it: a lent slice of 48 structs, one per class, filled from the flat numbers of the summary.
+#![tactic(auto)]
+
 ghost use Rattle.std.specs.Prelude.{◌≡◌, ◌<◌, length};
 ghost use Rattle.tables.specs.Shape.{base_shape};
 ghost use Rattle.tables.specs.Cells.{tables as table};

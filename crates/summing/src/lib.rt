@@ -1,4 +1,6 @@
 // The class summary: one pass over the used spans adds each to the record of its class, then one pass over the classes writes slots and cached blocks.
+#![tactic(auto)]
+
 ghost use Rattle.std.specs.Prelude.{◌≡◌, List, ℕ, ◌+◌, ◌^◌, ◌<◌, ◌≤◌, length, set};
 ghost use Rattle.size_classes.specs.SlotSizes.{Admissible};
 ghost use Rattle.tables.specs.Shape.{shape};

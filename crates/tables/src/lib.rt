@@ -1,11 +1,13 @@
 // The lent tables: cells by their names, and the numbers of one class of one heap.
+#![tactic(auto)]
+
 ghost use Rattle.std.specs.Prelude.{◌≡◌, ℕ, ◌+◌, ◌^◌, ◌<◌, length, get_or, set};
 ghost use Rattle.size_classes.specs.SlotSizes.{Admissible};
 ghost use Rattle.tables.specs.Shape.{shape, most_heaps, row_of, base_of, class_heap};
 ghost use Rattle.tables.specs.Cells.{bitmap_cell, span_cell, head_cell, entry_of, entry_span, entry_slot};
 
 // One class of one heap: its numbers, the row of its list heads and the base of its magazine.
-#[derive(Drop)]
+#[derive(Clone, Copy)]
 pub struct ClassHeap {
     pub class: u64,
     pub owner: u64,

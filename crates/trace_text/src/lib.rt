@@ -1,4 +1,6 @@
 // Text in a lent buffer: bytes, words and decimal numbers, one after the other. What does not fit is left out, so no function has a condition.
+#![tactic(auto)]
+
 ghost use Rattle.std.specs.Prelude.{◌≡◌, ◌∷◌, [], length};
 ghost use Rattle.io.specs.Counts.{IsPrefixLen};
 ghost use Rattle.trace_text.specs.Wrote.{Wrote, WroteNumber, WroteField};

@@ -1,0 +1,7 @@
+-- `test_bit` meets its contract. Assumes nothing.
+use borrow.Author.Rules.{rules}
+use Rattle.laws.proofs.BitLaws.{test_is}
+use Rattle.bits.proofs.test_bit.Goals as goal
+
+pub returns : goal.returns
+returns c = test_is c.args.x c.args.i c.requires

@@ -1,0 +1,9 @@
+-- `class_choice::entry` meets its contract. Assumes nothing.
+use native.Mathlib.Omega.{arith}
+use borrow.Author.Rules.{rules}
+use Rattle.size_classes.specs.Class.{lookup_entries}
+use Rattle.class_choice.proofs.entry.Goals as goal
+
+pub bounds-lookup-at : goal.bounds-lookup-at
+unfolding lookup_entries
+bounds-lookup-at c = omega arith

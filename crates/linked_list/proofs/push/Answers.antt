@@ -1,0 +1,45 @@
+-- `linked_list::push` meets its contract: its stores are those of the definition. Assumes nothing.
+use borrow.Author.Rules.{rules}
+use native.Mathlib.Omega.{arith}
+use Rattle.linked_list.proofs.ReachLaws.{head_here, field_here, linked_here, few_spans_lem}
+use Rattle.linked_list.proofs.StoreLaws.{push_made}
+use Rattle.linked_list.proofs.push.Goals as goal
+
+pub front-old-requires : goal.front-old-requires
+front-old-requires c = let p = c.requires in head_here p.by_index.1 p.f_le_reserve
+
+pub put_links-requires : goal.put_links-requires
+put_links-requires c =
+    let p = c.requires.by_index in
+    record {
+      previous_field_in_bounds = omega (arith, field_here p.1 {f = 3} p.2 (omega arith));
+      next_field_in_bounds = omega (arith, field_here p.1 {f = 4} p.2 (omega arith));
+    }
+
+pub overflow_add-s : goal.overflow_add-s
+overflow_add-s c =
+    let p = c.requires.by_index in
+    omega (arith, few_spans_lem p.1, p.2)
+
+pub put_linked-requires : goal.put_linked-requires
+put_linked-requires c =
+    let p = c.requires in
+    λ s h. omega (arith, linked_here p.by_index.1 {s = s} {f = 3} (p.by_index.1.fronts _ p.f_le_reserve) (omega (arith, c.front-old.ensures)) (omega arith))
+
+pub overflow_add-s-2 : goal.overflow_add-s-2
+overflow_add-s-2 c =
+    let p = c.requires.by_index in
+    omega (arith, few_spans_lem p.1, p.2)
+
+pub put_head-requires : goal.put_head-requires
+put_head-requires c =
+    let p = c.requires in
+    omega (arith, head_here p.by_index.1 p.f_le_reserve)
+
+pub returns : goal.returns
+returns c b e u =
+    push_made b e _ _ _ _ _ u _ _ _ _
+    c.front-old.ensures
+    c.put_links.ensures
+    c.put_linked.ensures
+    c.put_head.ensures

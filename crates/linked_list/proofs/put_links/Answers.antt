@@ -1,0 +1,6 @@
+-- `linked_list::put_links` meets its contract: two stores. Assumes nothing.
+use borrow.Author.Rules.{rules}
+use Rattle.linked_list.proofs.put_links.Goals as goal
+
+pub returns : goal.returns
+returns c = simp (c.put_field-2.ensures, c.put_field.ensures)

@@ -1,0 +1,6 @@
+-- `magazine::needs_refill` meets its contract. Assumes nothing.
+use borrow.Author.Rules.{rules}
+use Rattle.magazine.proofs.needs_refill.Goals as goal
+
+pub returns : goal.returns
+returns c b p e u = rw c.count.ensures

@@ -1,0 +1,8 @@
+-- `magazine::push` meets its contract. Assumes nothing.
+use borrow.Author.Rules.{rules}
+use Rattle.magazine.proofs.StepLaws.{push_made}
+use Rattle.magazine.proofs.push.Goals as goal
+
+pub returns : goal.returns
+returns c b p u =
+    push_made b p _ _ _ _ u _ _ c.count-c.ensures _ c.put_entry.ensures c.put_head.ensures

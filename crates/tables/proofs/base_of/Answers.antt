@@ -1,0 +1,26 @@
+-- `tables::base_of` meets its contract. Assumes nothing.
+use native.Mathlib.Omega.{arith}
+use borrow.Author.Rules.{rules}
+use Rattle.size_classes.specs.SlotSizes.{most_classes}
+use Rattle.magazine_layout.specs.Layout.{most_capacity}
+use Rattle.magazine_layout.proofs.LayoutLaws.{offset_small}
+use Rattle.tables.specs.Shape.{most_heaps, base_of}
+use Rattle.tables.proofs.MagazineCells.{bases_small}
+use Rattle.tables.proofs.base_of.Goals as goal
+
+pub overflow_mul-result : goal.overflow_mul-result
+unfolding most_heaps most_classes most_capacity
+overflow_mul-result c =
+    let most = bases_small _ {heaps = c.args.heap} c.requires.admissible (omega (arith, c.requires.heap_lt_most_heaps)) in
+    rw c.entries_per_heap.ensures (omega (arith, most))
+
+pub overflow_add-result : goal.overflow_add-result
+unfolding most_heaps most_classes most_capacity
+overflow_add-result c =
+    let most = bases_small _ {heaps = c.args.heap} c.requires.admissible (omega (arith, c.requires.heap_lt_most_heaps)) in
+    let last = offset_small _ c.requires.admissible c.args.class (omega (arith, c.requires.heap_lt_most_heaps)) in
+    rw (c.entries_per_heap.ensures, c.magazine_offset.ensures) (omega (arith, most, last))
+
+pub returns : goal.returns
+unfolding base_of
+returns c most heaps spans = rw (c.entries_per_heap.ensures, c.magazine_offset.ensures)

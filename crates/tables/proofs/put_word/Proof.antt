@@ -1,9 +1,0 @@
--- `tables::put_word` meets its contract: the cell stored to is the one named. Assumes nothing.
-use borrow.Author.Rules.{rules}
-use Rattle.tables.proofs.put_word.Statement.{statement}
-use Rattle.tables.proofs.put_word.Tie as tie
-
-pub put-word-spec : {M : Type 1} → statement M
-put-word-spec =
-    tie.close
-    (tie.spec (λ c κs. search rules) (λ c. search rules) (λ c. search rules) (λ c. search rules) (λ c. rw c.bitmap-cell.ensures))
