@@ -5,15 +5,10 @@ use Prim.Native.Nat.{ℕ}
 use native.Mathlib.Omega.{arith}
 use lib.Dec.{eqb}
 use Rattle.span.proofs.CellsThere.{field_there}
-use Rattle.span.proofs.is_empty.Statement.{statement}
-use Rattle.span.proofs.is_empty.Tie as tie
+use Rattle.span.proofs.is_empty.Goals as goal
 
-returns : tie.Need-returns
+pub returns : goal.returns
 returns c = λ b e h u. ap (λ (n : ℕ). eqb n 0) c.field.ensures
 
-pub is_empty_spec : {M : Type 1} → statement M
-is_empty_spec =
-    tie.close
-    (tie.spec
-    (λ c κs. field_there _ _ c.before.requires 2 (omega arith))
-    returns)
+pub field-requires : goal.field-requires
+field-requires c = field_there _ _ c.requires 2 (omega arith)
