@@ -1,0 +1,43 @@
+-- `span_steps::push_claimed` meets its contract: what is left to push falls by the entry pushed. Assumes nothing.
+use borrow.Author.Rules.{rules}
+use mathlib.Core.Path.{◌≡◌, ap, ◌∙◌}
+use mathlib.Core.Logic.{⊎_elim}
+use Prim.Native.Nat.{ℕ, ◌-◌, ◌%◌}
+use native.Mathlib.Omega.{arith}
+use Rattle.span.specs.Span.{claimed_entries}
+use Rattle.span_steps.proofs.PushingLaws.{Pushing, starts, passes, has_room, pushes, ends}
+use Rattle.span_steps.proofs.push_claimed.Goals as goal
+use Rattle.span_steps.proofs.push_claimed.Goals.{then-rest-eq1, else-rest-eq1}
+
+pub loop-b-init : goal.loop-b-init
+unfolding claimed_entries
+loop-b-init c = starts _ _ _ _ _ c.requires.room (rw c.entry_of-first.ensures c.requires.mask_bound)
+
+pub overflow_add-first : goal.overflow_add-first
+overflow_add-first c = search (rules, c.entry_of-first.ensures, c.requires.i_bound.1)
+
+pub push-requires : goal.push-requires
+push-requires c =
+    record {
+      room = c.loop-b.invariant.room;
+      k_bound = has_room _ _ _ _ _ _ _ _ _ c.loop-b.invariant c.loop-b-test.true c.if-rest-eq1.true;
+    }
+
+pub loop-b-preserved : goal.loop-b-preserved
+loop-b-preserved c =
+    let at = c.loop-b in
+    elim c.if-rest-eq1.branch [
+      | then-rest-eq1 w ↦
+          pushes _ _ _ _ _ _ _ _ _ at.invariant c.loop-b-test.true w.if-rest-eq1.true _ _
+          (λ x p u. rw (w.entries-is, w.heads-is) (w.push.ensures x p u))
+      | else-rest-eq1 w ↦
+          let z : at.rest % 2 ≡ 0 = omega (arith, w.if-rest-eq1.false) in
+          rw (w.entries-is, w.heads-is) (passes _ _ _ _ _ _ _ _ _ at.invariant c.loop-b-test.true z)
+    ]
+
+pub returns : goal.returns
+unfolding claimed_entries
+returns c =
+    let at = c.loop-b in
+    let n : at.b ≡ 64 = omega (arith, at.invariant.within) in
+    λ x p u. rw (← c.entry_of-first.ensures) (ends _ _ _ _ _ _ _ _ _ at.invariant n x p u)
