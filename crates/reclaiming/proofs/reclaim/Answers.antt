@@ -1,0 +1,34 @@
+-- `reclaiming::reclaim` meets its contract: what is left of the walk falls by the span passed. Assumes nothing.
+use borrow.Author.Rules.{rules}
+use mathlib.Core.Path.{sym, ◌∙◌}
+use native.Mathlib.Omega.{arith}
+use Rattle.linked_list.proofs.ReachLaws.{head_here, field_here}
+use Rattle.placing.proofs.PlacingKept.{working_links}
+use Rattle.reclaiming.proofs.ReclaimingLaws.{reclaim_end, reclaim_out, Walking, walk_start, walk_turn}
+use Rattle.reclaiming.proofs.reclaim.Goals as goal
+
+pub front-at-requires : goal.front-at-requires
+front-at-requires c = head_here (working_links c.requires.2) (omega arith)
+
+pub loop-left-init : goal.loop-left-init
+loop-left-init c = walk_start _ _ _ _ _ _ _ _ c.requires.2 c.front-at.ensures
+
+pub field-at-requires : goal.field-at-requires
+field-at-requires c = field_here (working_links c.loop-left.invariant.working) (omega (arith, c.if-at-eq0.false, c.loop-left.invariant.here)) (omega arith)
+
+pub reclaim_one-requires : goal.reclaim_one-requires
+reclaim_one-requires c =
+    let w = c.loop-left.invariant in
+    (w.limit, w.entries, _, w.working, omega (arith, c.if-at-eq0.false, w.here))
+
+pub loop-left-preserved : goal.loop-left-preserved
+loop-left-preserved c =
+    let k = c.reclaim_one.auto in
+    walk_turn _ _ _ _ _ _ _ _ _ _ _ _ _ _ c.loop-left.invariant c.loop-left-test.true c.if-at-eq0.false c.field-at.ensures k.bits k.spans k.heads
+    c.reclaim_one.ensures
+
+pub returns-after-loop-left : goal.returns-after-loop-left
+returns-after-loop-left c = λ e u. sym (reclaim_out _ _ _ _ c.loop-left-test.false) ∙ c.loop-left.invariant.same e u
+
+pub returns-then-at-eq0 : goal.returns-then-at-eq0
+returns-then-at-eq0 c = λ e u. sym (reclaim_end _ _ _ _ c.if-at-eq0.true) ∙ c.loop-left.invariant.same e u

@@ -1,0 +1,14 @@
+-- `reclaiming::reclaim` meets its contract: what is left of the walk falls by the span passed. Assumes nothing.
+use borrow.Author.Rules.{rules}
+use mathlib.Core.Path.{sym, ◌∙◌}
+use native.Mathlib.Omega.{arith}
+use Rattle.linked_list.proofs.ReachLaws.{head_here, field_here}
+use Rattle.placing.proofs.PlacingKept.{working_links}
+use Rattle.reclaiming.proofs.ReclaimingLaws.{reclaim_end, reclaim_out, Walking, walk_start, walk_turn}
+use Rattle.reclaiming.proofs.reclaim.Given as goal
+
+abbrev pub invariant-loop-left : goal.invariant-loop-left
+invariant-loop-left l = Walking l.used l.k l.initial.bits l.initial.spans l.initial.heads l.bits l.spans l.heads l.at l.left
+
+abbrev pub decreases-loop-left : goal.decreases-loop-left
+decreases-loop-left l = l.left

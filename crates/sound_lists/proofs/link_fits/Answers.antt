@@ -1,0 +1,18 @@
+-- `sound_lists::link_fits` meets its contract: each test decides one clause. Assumes nothing.
+use borrow.Author.Rules.{rules}
+use native.Mathlib.Omega.{arith}
+use Rattle.span.proofs.CellsThere.{field_there}
+use Rattle.sound_lists.proofs.WalkLaws.{record_there}
+use Rattle.sound_lists.proofs.link_fits.Goals as goal
+
+pub field-requires : goal.field-requires
+field-requires c = field_there _ _ (record_there c.requires c.if-s-used.false) _ (omega arith)
+
+pub field-requires-2 : goal.field-requires-2
+field-requires-2 c = field_there _ _ (record_there c.requires c.if-s-used.false) _ (omega arith)
+
+pub field-requires-3 : goal.field-requires-3
+field-requires-3 c = field_there _ _ (record_there c.requires c.if-s-used.false) _ (omega arith)
+
+pub field-n-requires : goal.field-n-requires
+field-n-requires c = field_there _ _ (record_there c.requires c.if-s-used.false) _ (omega arith)
