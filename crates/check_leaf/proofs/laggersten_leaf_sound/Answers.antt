@@ -8,20 +8,19 @@ use Rattle.size_classes.proofs.SlotSizeLaws.{slot_sizes_admissible}
 use Rattle.tables.specs.Shape.{shape, most_spans}
 use Rattle.tables.specs.Cells.{tables}
 use Rattle.guard.specs.Guard.{sound_number}
-use Rattle.check_leaf.proofs.laggersten_leaf_sound.Statement.{statement}
-use Rattle.check_leaf.proofs.laggersten_leaf_sound.Tie as tie
+use Rattle.check_leaf.proofs.laggersten_leaf_sound.Goals as goal
 
-sound-number-requires : tie.Need-sound-number-requires
-sound-number-requires c κs = (rw c.before.slot-sizes.ensures slot_sizes_admissible, omega arith)
+pub sound_number-requires : goal.sound_number-requires
+sound_number-requires c =
+    record {
+      admissible = rw c.slot_sizes-sizes.ensures slot_sizes_admissible;
+      most_bound = omega arith;
+    }
 
-returns : tie.Need-returns
+pub returns : goal.returns
 unfolding most_spans
 returns c =
-    let a = c.before.before.before.before.before.before.before.args in
-    c.sound-number.ensures
+    let a = c.args in
+    c.sound_number.ensures
     ∙ ap (λ (l : List ℕ). sound_number (shape l most_spans a.heaps a.spans) (tables a.bits.now a.records.now a.entries.now a.heads.now a.used))
-    c.before.before.slot-sizes.ensures
-
-pub laggersten-leaf-sound-spec : {M : Type 1} → statement M
-laggersten-leaf-sound-spec =
-    tie.close (tie.spec (λ c κs. search rules) (λ c. search rules) sound-number-requires returns)
+    c.slot_sizes-sizes.ensures
