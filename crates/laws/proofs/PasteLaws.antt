@@ -1,13 +1,12 @@
 -- More laws of `paste`, a row of cells copied over another: cell by cell, and one cell at a time. Assumes nothing.
-use mathlib.Core.Path.{◌≡◌, refl, sym, ap, ◌∙◌}
+use mathlib.Core.Path.{◌≡◌, sym, ap, ◌∙◌}
 use mathlib.Core.List.{List, [], ◌∷◌, ◌++◌, append_assoc, append-nil}
-use mathlib.Core.Logic.{◌⊎◌, inl, inr, ⊎_elim}
-use Prim.Native.Nat.{ℕ, zero, suc, ◌+◌, ◌-◌, ◌<◌, ◌≤◌}
+use Prim.Native.Nat.{ℕ, suc, ◌+◌, ◌-◌, ◌<◌, ◌≤◌}
 use native.Mathlib.Nat.{add-suc, suc-add, zero-add}
 use native.Mathlib.Numerals.{add-one}
 use native.Mathlib.Omega.{arith}
-use lib.ListN.{length, take, drop, get_or, set, replicate, length-append, length-take, length-drop, length-set, drop_of_length-le, get_or-append}
-use lib.Seq.{paste, paste-suc, take-paste, drop-paste, drop-drop, take-append-add, take-suc-set, drop-set-lt, get_or-take, get_or-drop, get_or-append-add, length-take-le, length_paste_head, append_snoc, take_all, drop-length}
+use lib.ListN.{length, take, drop, get_or, set, length-drop, drop_of_length-le, get_or-append}
+use lib.Seq.{paste, paste-suc, take-paste, drop-paste, drop-drop, take-append-add, take-suc-set, drop-set-lt, get_or-take, get_or-drop, get_or-append-add, length-take-le, length_paste_head, append_snoc, take_all}
 
 -- A copy of one cell more is a store and a copy of the rest.
 pub paste_cons : (d : List ℕ) (at x : ℕ) (xs : List ℕ) (n : ℕ) → at < length d → paste d at (x ∷ xs) (suc n) ≡ paste (set d at x) (suc at) xs n

@@ -1,5 +1,5 @@
 -- Tests that answer a proposition, and tests over every number below a bound. Assumes nothing.
-use Rattle.std.specs.Prelude.{Bool, true, false, ◌&&◌, ◌||◌, ℕ, zero, suc, ◌+◌, ◌<◌}
+use Rattle.std.specs.Prelude.{Bool, true, false, ◌&&◌, ◌||◌, ℕ, zero, suc, ◌+◌}
 
 -- the test r says whether P holds
 abbrev pub Says : Bool → Type 0 → Type 0

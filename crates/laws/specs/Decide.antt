@@ -1,8 +1,7 @@
 -- Decisions that compute: of a pair, of every number below a bound, of every element of a list, of a chain. Assumes nothing.
-use Rattle.std.specs.Prelude.{◌≡◌, Bool, true, false, List, [], ◌∷◌, ℕ, zero, suc, ◌+◌, ◌<◌, ◌≤◌}
-use Rattle.std.proofs.Common.{subst, sym, not-suc-le-zero, arith}
-use Rattle.std.proofs.Math.Bool.{Bool-discrete}
-use Rattle.std.proofs.Math.Decide.{dec_lt, dec_le, ℕ_discrete}
+use Rattle.std.specs.Prelude.{◌≡◌, List, [], ◌∷◌, ℕ, zero, suc, ◌+◌, ◌<◌}
+use Rattle.std.proofs.Common.{subst, not-suc-le-zero, arith}
+use Rattle.std.proofs.Math.Decide.{dec_lt, ℕ_discrete}
 use Rattle.laws.specs.Links.{All, Joined, Chain}
 
 abbrev pub both : {P Q : Type 0} → Dec P → Dec Q → Dec (P × Q)

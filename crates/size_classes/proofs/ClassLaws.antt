@@ -1,5 +1,5 @@
 -- Which classes fit a request, and how a search for the smallest ends, over any list of slot sizes. Assumes nothing.
-use mathlib.Core.Bool.{true, false, ◌&&◌, and-false, true≢false}
+use mathlib.Core.Bool.{true, false, and-false, true≢false}
 use mathlib.Core.List.{List}
 use mathlib.Core.Logic.{◌⊎◌, inl, inr, ⊎_elim}
 use mathlib.Core.Path.{◌≡◌, sym, ◌∙◌}

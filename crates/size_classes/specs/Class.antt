@@ -1,5 +1,5 @@
 -- The class of a request, over any list of slot sizes. Assumes nothing.
-use Rattle.std.specs.Prelude.{Bool, true, false, ◌&&◌, cond, List, ℕ, ◌+◌, ◌*◌, ◌%◌, ◌^◌, length, leb, eqb}
+use Rattle.std.specs.Prelude.{Bool, ◌&&◌, cond, List, ℕ, ◌+◌, ◌*◌, ◌%◌, ◌^◌, length, leb, eqb}
 use Rattle.laws.specs.First.{first}
 use Rattle.size_classes.specs.declared.ClassFound.{ClassFound}
 use Rattle.size_classes.specs.declared.ClassFound.TheVariants.{Class, TooLarge}

@@ -1,5 +1,4 @@
 -- `clear_bit` meets its contract. Assumes nothing.
-use borrow.Author.Rules.{rules}
 use Rattle.laws.proofs.BitLaws.{clear_is}
 use Rattle.bits.proofs.clear_bit.Goals as goal
 

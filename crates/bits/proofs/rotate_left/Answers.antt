@@ -1,5 +1,4 @@
 -- `rotate_left` meets its contract: the two shifts share no bit. Assumes nothing.
-use borrow.Author.Rules.{rules}
 use mathlib.Core.Path.{sym, ap, ◌∙◌}
 use Rattle.bits.specs.Rotated.{rotated_left}
 use Rattle.bits.proofs.RotationLaws.{left_is, left_none}

@@ -1,5 +1,4 @@
 -- `rotate_right` meets its contract: the two shifts share no bit. Assumes nothing.
-use borrow.Author.Rules.{rules}
 use mathlib.Core.Path.{sym, ap, ◌∙◌}
 use Rattle.bits.specs.Rotated.{rotated_right}
 use Rattle.bits.proofs.RotationLaws.{right_is, right_none}

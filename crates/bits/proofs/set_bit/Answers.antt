@@ -1,5 +1,4 @@
 -- `set_bit` meets its contract. Assumes nothing.
-use borrow.Author.Rules.{rules}
 use Rattle.laws.proofs.BitLaws.{set_is}
 use Rattle.bits.proofs.set_bit.Goals as goal
 

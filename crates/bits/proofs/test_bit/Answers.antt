@@ -1,5 +1,4 @@
 -- `test_bit` meets its contract. Assumes nothing.
-use borrow.Author.Rules.{rules}
 use Rattle.laws.proofs.BitLaws.{test_is}
 use Rattle.bits.proofs.test_bit.Goals as goal
 

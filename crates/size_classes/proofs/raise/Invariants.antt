@@ -1,12 +1,7 @@
 -- `size_classes::raise` meets its contract. The loop's invariant: p is a power of two, and the powers below it are below the alignment. The measure
 -- is what p lacks of the alignment. Assumes nothing.
-use mathlib.Core.Path.{◌≡◌, refl, sym, ◌∙◌}
-use Prim.Native.Nat.{ℕ, ◌+◌, ◌-◌, ◌*◌, ◌^◌, ◌≤◌, ◌<◌}
-use native.Mathlib.Decide.{dec_lt}
-use native.Mathlib.Omega.{arith}
-use lib.Pow.{pow_pos, pow_mono, pow-add}
-use borrow.Author.Count.{below_more}
-use Rattle.size_classes.proofs.RaisedLaws.{raised_is}
+use mathlib.Core.Path.{◌≡◌}
+use Prim.Native.Nat.{ℕ, ◌-◌, ◌^◌, ◌≤◌, ◌<◌}
 use Rattle.size_classes.proofs.raise.Given as goal
 
 -- p is a power of two, and the smaller powers are below the alignment

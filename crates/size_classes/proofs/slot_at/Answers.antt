@@ -1,7 +1,6 @@
 -- `size_classes::slot_at` meets its contract. Assumes nothing.
 use mathlib.Core.Path.{sym}
 use native.Mathlib.Omega.{arith}
-use borrow.Author.Rules.{rules}
 use Rattle.size_classes.proofs.SlotTheorems.{slot_found_lem, between_slots, past_slots}
 use Rattle.size_classes.proofs.slot_at.Goals as goal
 

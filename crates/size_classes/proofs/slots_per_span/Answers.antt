@@ -1,6 +1,5 @@
 -- `size_classes::slots_per_span` meets its contract. Assumes nothing.
 use native.Mathlib.Omega.{arith}
-use borrow.Author.Rules.{rules}
 use Rattle.size_classes.specs.SlotSizes.{largest_slot}
 use Rattle.size_classes.specs.Slots.{most_slots, fewest_slots, slots_per_span}
 use Rattle.size_classes.proofs.slots_per_span.Goals as goal

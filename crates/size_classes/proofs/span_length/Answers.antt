@@ -2,7 +2,6 @@
 use mathlib.Core.Path.{ap}
 use Prim.Native.Nat.{ℕ, ◌*◌}
 use native.Mathlib.Omega.{arith}
-use borrow.Author.Rules.{rules}
 use Rattle.size_classes.specs.Slots.{span_length}
 use Rattle.size_classes.proofs.SlotTheorems.{span_longest}
 use Rattle.size_classes.proofs.span_length.Goals as goal

@@ -1,0 +1,19 @@
+-- `leaves::laggersten_leaf_claim` meets its contract. Assumes nothing.
+use borrow.Author.Rules.{rules}
+use mathlib.Core.Path.{sym, ap, ◌∙◌}
+use Rattle.leaves.specs.Numbers.{claim_numbers}
+use Rattle.leaves.proofs.laggersten_leaf_claim.Goals as goal
+
+pub returns-in-Nothing : goal.returns-in-Nothing
+returns-in-Nothing c =
+    record {
+      answer = ap claim_numbers (sym c.enum_told-1.given.1 ∙ c.claim-claimed.ensures.answer);
+      cells = c.claim-claimed.ensures.cells;
+    }
+
+pub returns-in-Taken : goal.returns-in-Taken
+returns-in-Taken c =
+    record {
+      answer = ap claim_numbers (sym c.claimed-1.given.1 ∙ c.claim-claimed.ensures.answer);
+      cells = c.claim-claimed.ensures.cells;
+    }

@@ -1,0 +1,31 @@
+-- `summing::add_spans` meets its contract: the spans passed are counted. Assumes nothing.
+use borrow.Author.Rules.{rules}
+use mathlib.Core.Path.{◌≡◌, sym, subst, ◌∙◌}
+use mathlib.Core.List.{List}
+use Prim.Native.Nat.{ℕ, ◌-◌, ◌≤◌}
+use native.Mathlib.Omega.{arith}
+use Rattle.summing.specs.Tally.{Tallied}
+use Rattle.summing.proofs.TallyLaws.{span_fits, tallied_more}
+use Rattle.summing.proofs.add_spans.Goals as goal
+use Rattle.summing.proofs.add_spans.Invariants.{Passed}
+
+pub loop-s-init : goal.loop-s-init
+loop-s-init c = record { within = omega arith; tallied = c.requires.tallied }
+
+pub add_span-requires : goal.add_span-requires
+add_span-requires c = span_fits c.requires.spans_count c.loop-s-test.true c.loop-s.invariant.tallied
+
+pub loop-s-preserved : goal.loop-s-preserved
+loop-s-preserved c =
+    record {
+      within = omega (arith, c.loop-s-test.true);
+      tallied = rw c.add_span.ensures (tallied_more c.requires.spans_count c.loop-s-test.true c.loop-s.invariant.tallied);
+    }
+
+pub shape_of-out : goal.shape_of-out
+shape_of-out c = c.loop-s.invariant.tallied.long ∙ sym c.requires.tallied.long
+
+pub returns : goal.returns
+returns c =
+    let e : c.loop-s.s ≡ c.args.used = omega (arith, c.loop-s.invariant.within, c.loop-s-test.false) in
+    subst (λ (z : ℕ). Tallied c.args.classes c.args.bits.now c.args.spans.now z c.loop-s.out) e c.loop-s.invariant.tallied

@@ -1,0 +1,34 @@
+-- `summing::pending` meets its contract: the set bits of the remote words passed are counted. Assumes nothing.
+use borrow.Author.Rules.{rules}
+use mathlib.Core.Path.{◌≡◌, subst}
+use mathlib.Core.List.{List}
+use Prim.Native.Nat.{ℕ, ◌-◌, ◌*◌, ◌≤◌}
+use native.Mathlib.Omega.{arith}
+use Rattle.laws.proofs.WordLaws.{ones_most}
+use Rattle.span.proofs.CellsThere.{remote_word_there}
+use Rattle.summing.specs.Tally.{pending_in}
+use Rattle.summing.proofs.TallyLaws.{pending_none, pending_more}
+use Rattle.summing.proofs.pending.Goals as goal
+use Rattle.summing.proofs.pending.Invariants.{Counted}
+
+pub loop-i-init : goal.loop-i-init
+loop-i-init c = record { few = omega arith; most = omega arith; is = pending_none _ _ }
+
+pub word-requires : goal.word-requires
+word-requires c = remote_word_there _ _ c.requires _ c.loop-i-test.true
+
+pub overflow_add-total : goal.overflow_add-total
+overflow_add-total c = omega (arith, c.count-total.ensures, ones_most 64 c.word.result, c.loop-i.invariant.most, c.loop-i-test.true)
+
+pub loop-i-preserved : goal.loop-i-preserved
+loop-i-preserved c =
+    record {
+      few = omega (arith, c.loop-i-test.true);
+      most = omega (arith, c.count-total.ensures, ones_most 64 c.word.result, c.loop-i.invariant.most);
+      is = pending_more _ _ _ c.loop-i.invariant.is c.word.ensures c.count-total.ensures;
+    }
+
+pub returns : goal.returns
+returns c =
+    let e : c.loop-i.i ≡ 64 = omega (arith, c.loop-i.invariant.few, c.loop-i-test.false) in
+    subst (λ (z : ℕ). c.loop-i.total ≡ pending_in c.args.bits.now c.args.s z) e c.loop-i.invariant.is

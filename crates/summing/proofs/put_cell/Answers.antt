@@ -1,0 +1,6 @@
+-- `summing::put_cell` meets its contract: the cell stored to is the one named. Assumes nothing.
+use borrow.Author.Rules.{rules}
+use Rattle.summing.proofs.put_cell.Goals as goal
+
+pub returns : goal.returns
+returns c = rw c.summary_cell-at.ensures

@@ -1,0 +1,34 @@
+-- `summing::write_class` meets its contract: two stores to the record of the class. Assumes nothing.
+use borrow.Author.Rules.{rules}
+use mathlib.Core.Path.{subst, sym}
+use Prim.Native.Nat.{ℕ, ◌*◌, ◌^◌, ◌≤◌}
+use native.Mathlib.Omega.{arith}
+use Rattle.summing.specs.Tally.{slots_cell}
+use Rattle.summing.proofs.StepLaws.{class_cell, class_cell_still, slots_fit, class_is_written}
+use Rattle.summing.proofs.write_class.Goals as goal
+
+pub slots_per_span-slots-requires : goal.slots_per_span-slots-requires
+slots_per_span-slots-requires c = c.requires.admissible.positive _ c.requires.class_fits.class
+
+pub cached-cached-requires : goal.cached-cached-requires
+cached-cached-requires c =
+    record {
+      heads_count = c.requires.class_fits.counts;
+      c_lt_classes = c.requires.class_fits.class;
+    }
+
+pub cell-spans-requires : goal.cell-spans-requires
+cell-spans-requires c = class_cell c.requires.class_fits (omega arith)
+
+pub overflow_mul-spans : goal.overflow_mul-spans
+overflow_mul-spans c =
+    omega (arith, slots_fit _ (subst (λ (z : ℕ). z ≤ 2 ^ 32) (sym c.cell-spans.ensures) c.requires.class_fits.few) c.slots_per_span-slots.ensures)
+
+pub put_cell-requires : goal.put_cell-requires
+put_cell-requires c = class_cell c.requires.class_fits (omega arith)
+
+pub put_cell-requires-2 : goal.put_cell-requires-2
+put_cell-requires-2 c = class_cell_still c.requires.class_fits slots_cell (c.cell-spans.result * c.slots_per_span-slots.result) (omega arith) c.put_cell.ensures
+
+pub returns : goal.returns
+returns c = class_is_written _ _ _ _ _ c.slots_per_span-slots.ensures c.cached-cached.ensures c.cell-spans.ensures c.put_cell.ensures c.put_cell-2.ensures
