@@ -1,11 +1,10 @@
 -- Lists on a table of three spans and one class: push at the front, remove at the front, in the middle and at the end. Assumes nothing.
 use mathlib.Core.Path.{◌≡◌, refl}
-use mathlib.Core.List.{List, [], ◌∷◌}
-use Prim.Native.Nat.{ℕ}
+use mathlib.Core.List.{[], ◌∷◌}
 use lib.ListN.{replicate}
 use Rattle.laws.specs.Links.{walk}
 use Rattle.tables.specs.Shape.{record_cells, head_cells}
-use Rattle.tables.specs.Cells.{Tables, tables, span_cell, head_cell, partial_list, full_list, empty_list}
+use Rattle.tables.specs.Cells.{Tables, tables, span_cell, head_cell, full_list, empty_list}
 use Rattle.tables.proofs.Tiny.{one}
 use Rattle.linked_list.specs.Lists.{push, remove, pop, list_of}
 

@@ -1,11 +1,11 @@
 -- 01's magazine draw, with the stale cell; push and pop. Assumes nothing.
 use mathlib.Core.Path.{◌≡◌, refl}
-use mathlib.Core.Bool.{Bool, true, false}
+use mathlib.Core.Bool.{true, false}
 use mathlib.Core.List.{List, [], ◌∷◌}
 use Prim.Native.Nat.{ℕ}
 use Rattle.laws.specs.Choice.{some}
 use Rattle.tables.specs.Shape.{head_cells}
-use Rattle.tables.specs.Cells.{Tables, tables, head_cell, count_at, entry_at}
+use Rattle.tables.specs.Cells.{Tables, tables, head_cell, entry_at}
 use Rattle.tables.proofs.Tiny.{one}
 use Rattle.magazine.specs.Magazine.{needs_refill, push_entry, push_entries, pop_entry, drawn_at, draw_entry, is_cached}
 

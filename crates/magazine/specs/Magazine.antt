@@ -1,5 +1,5 @@
 -- The steps of one magazine: push, pop, draw. Assumes nothing.
-use Rattle.std.specs.Prelude.{Bool, List, [], ◌∷◌, ℕ, ◌+◌, ◌-◌, ◌%◌, eqb, leb, ltb}
+use Rattle.std.specs.Prelude.{Bool, List, [], ◌∷◌, ℕ, ◌+◌, ◌-◌, ◌%◌, eqb, leb}
 use Rattle.tables.specs.declared.ClassHeap.{ClassHeap}
 use Rattle.laws.specs.Choice.{some}
 use Rattle.tables.specs.Cells.{Tables, counter, count_at, set_head, entry_at, set_entry}

@@ -1,6 +1,5 @@
 -- Numbers of the layout over 01's list. Assumes nothing.
 use mathlib.Core.Path.{◌≡◌, refl}
-use Prim.Native.Nat.{ℕ}
 use Rattle.laws.specs.Choice.{sum}
 use Rattle.size_classes.specs.SlotSizes.{rising, groups, slot_sizes}
 use Rattle.magazine_layout.specs.Layout.{magazine_bytes, least_capacity, most_capacity, capacity_for, low_water_for, magazine_offset, entries_per_heap}

@@ -1,10 +1,9 @@
 -- One span's occupancy: a fresh one, a claim, a release, and the fold of pending frees. Assumes nothing.
-use Rattle.std.specs.Prelude.{Bool, ◌||◌, not, cond, List, [], ◌∷◌, ℕ, zero, suc, ◌+◌, ◌-◌, ◌*◌, ◌/◌, ◌%◌, ◌^◌, min, get_or, set, eqb, leb, ltb}
+use Rattle.std.specs.Prelude.{◌||◌, not, cond, List, [], ◌∷◌, ℕ, zero, suc, ◌+◌, ◌-◌, ◌/◌, ◌%◌, ◌^◌, min, get_or, set, eqb, leb}
 use Rattle.laws.specs.First.{first}
 use Rattle.laws.specs.Word.{all_ones, bit_at, set_bit, clear_bit, popcount}
 use Rattle.occupancy.specs.declared.Occupancy.{Occupancy}
 use Rattle.occupancy.specs.declared.Claim.{Claim}
-use Rattle.occupancy.specs.declared.Claimed.{Claimed}
 use Rattle.occupancy.specs.declared.Claimed.TheVariants.{Nothing, Taken}
 
 abbrev pub occupancy : ℕ → List ℕ → ℕ → Occupancy

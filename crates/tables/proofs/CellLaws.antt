@@ -1,10 +1,8 @@
 -- Where cells stand: each is in its table, and no two of them meet. Users of cells cite these laws and never a stride. Assumes nothing.
-use mathlib.Core.Path.{◌≡◌, refl, sym, ◌∙◌, ap}
-use mathlib.Core.List.{List}
+use mathlib.Core.Path.{◌≡◌, sym, ◌∙◌, ap}
 use Prim.Native.Nat.{ℕ, ◌+◌, ◌*◌, ◌/◌, ◌%◌, ◌<◌, ◌≤◌}
 use native.Mathlib.Omega.{arith}
 use lib.Arith.{digits_lt, digits_div, digits_mod}
-use lib.ListN.{length}
 use Rattle.size_classes.specs.Slots.{most_slots}
 use Rattle.tables.specs.Shape.{Shape, classes, bitmap_cells, record_cells, head_cells, row_of}
 use Rattle.tables.specs.Cells.{bitmap_cell, span_cell, head_cell, local_word, remote_word, remote_summary, next_field, counter, entry_of, entry_span, entry_slot}

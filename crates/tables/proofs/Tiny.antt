@@ -1,5 +1,5 @@
 -- The smallest shape, for worked examples: one class of 131072 bytes, so 8 slots a span, one heap. Assumes nothing.
-use mathlib.Core.List.{List, [], ◌∷◌}
+use mathlib.Core.List.{[], ◌∷◌}
 use Prim.Native.Nat.{ℕ, ◌*◌}
 use lib.ListN.{replicate}
 use Rattle.tables.specs.declared.ClassHeap.{ClassHeap}

@@ -1,14 +1,13 @@
 -- Lengths, rows and ranges of 01's shapes and of the smallest one. Assumes nothing.
 use mathlib.Core.Path.{◌≡◌, refl}
-use mathlib.Core.Bool.{Bool, true, false}
-use mathlib.Core.List.{List, [], ◌∷◌}
+use mathlib.Core.Bool.{true, false}
 use Prim.Native.Nat.{ℕ}
-use lib.ListN.{length, replicate}
+use lib.ListN.{replicate}
 use Rattle.laws.specs.Choice.{sum}
 use Rattle.size_classes.specs.SlotSizes.{rising, groups, slot_sizes, largest_slot}
 use Rattle.size_classes.specs.Slots.{most_slots, fewest_slots, slots_per_span}
 use Rattle.magazine_layout.specs.Layout.{magazine_bytes, least_capacity, most_capacity, capacity_for, low_water_for, magazine_offset, entries_per_heap}
-use Rattle.tables.specs.Shape.{Shape, base_shape, most_heaps, most_spans, bitmap_cells, record_cells, head_cells, row_of, base_of, class_heap}
+use Rattle.tables.specs.Shape.{base_shape, most_heaps, most_spans, bitmap_cells, record_cells, head_cells, row_of, base_of, class_heap}
 use Rattle.tables.specs.Cells.{Tables, tables, right_shape, right_lengths, as_stated, fresh_tables, entry_of, entry_span, entry_slot}
 use Rattle.tables.proofs.Tiny.{tiny, one, blank}
 

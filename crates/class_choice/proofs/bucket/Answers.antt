@@ -1,6 +1,5 @@
 -- `class_choice::bucket` meets its contract. Assumes nothing.
 use native.Mathlib.Omega.{arith}
-use borrow.Author.Rules.{rules}
 use Rattle.size_classes.specs.SlotSizes.{least_alignment}
 use Rattle.class_choice.specs.Search.{bucket_of}
 use Rattle.class_choice.proofs.bucket.Goals as goal

@@ -1,6 +1,5 @@
 -- `class_choice::entry` meets its contract. Assumes nothing.
 use native.Mathlib.Omega.{arith}
-use borrow.Author.Rules.{rules}
 use Rattle.size_classes.specs.Class.{lookup_entries}
 use Rattle.class_choice.proofs.entry.Goals as goal
 

@@ -1,5 +1,4 @@
 -- `class_choice::from_layout` meets its contract. Assumes nothing.
-use borrow.Author.Rules.{rules}
 use Rattle.class_lookup.proofs.LookupLaws.{class_tables}
 use Rattle.class_choice.proofs.from_layout.Goals as goal
 

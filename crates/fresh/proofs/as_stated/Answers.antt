@@ -1,8 +1,6 @@
 -- `fresh::as_stated` meets its contract. Assumes nothing.
 use mathlib.Core.Path.{sym, ◌∙◌}
 use native.Mathlib.Omega.{arith}
-use borrow.Author.Rules.{rules}
-use borrow.Author.Tests.{not-true, not-false}
 use Rattle.tables.specs.Shape.{shape}
 use Rattle.tables.proofs.StatedLaws.{shape_passed}
 use Rattle.fresh.proofs.FreshLaws.{shape_refused, shape_right}

@@ -1,6 +1,4 @@
 -- `fresh::fresh` meets its contract. Assumes nothing.
-use borrow.Author.Rules.{rules}
-use borrow.Author.Tests.{not-true, not-false}
 use Rattle.fresh.proofs.FreshLaws.{fresh_refused, fresh_made}
 use Rattle.fresh.proofs.fresh.Goals as goal
 

@@ -1,6 +1,5 @@
 -- `fresh::right_lengths` meets its contract: each test is one of the definition's. Assumes nothing.
 use native.Mathlib.Omega.{arith}
-use borrow.Author.Rules.{rules}
 use borrow.Author.Tests.{eq-eqb, ne_eqb}
 use Rattle.size_classes.specs.SlotSizes.{most_classes}
 use Rattle.magazine_layout.specs.Layout.{most_capacity}

@@ -7,13 +7,13 @@ use Rattle.leaves.proofs.laggersten_leaf_claim.Goals as goal
 pub returns-in-Nothing : goal.returns-in-Nothing
 returns-in-Nothing c =
     record {
-      answer = ap claim_numbers (sym c.enum_told-1.given.1 ∙ c.claim-claimed.ensures.answer);
+      answer = ap claim_numbers (sym c.in-Nothing.is ∙ c.claim-claimed.ensures.answer);
       cells = c.claim-claimed.ensures.cells;
     }
 
 pub returns-in-Taken : goal.returns-in-Taken
 returns-in-Taken c =
     record {
-      answer = ap claim_numbers (sym c.claimed-1.given.1 ∙ c.claim-claimed.ensures.answer);
+      answer = ap claim_numbers (sym c.in-Taken.is ∙ c.claim-claimed.ensures.answer);
       cells = c.claim-claimed.ensures.cells;
     }

@@ -5,7 +5,7 @@ use Rattle.leaves.specs.Numbers.{slot_number}
 use Rattle.leaves.proofs.laggersten_leaf_slot.Goals as goal
 
 pub returns-in-Slot : goal.returns-in-Slot
-returns-in-Slot c = ap slot_number (sym c.found-1.given.1 ∙ c.slot_at-found.ensures)
+returns-in-Slot c = ap slot_number (sym c.in-Slot.is ∙ c.slot_at-found.ensures)
 
 pub returns-in-NoSlot : goal.returns-in-NoSlot
-returns-in-NoSlot c = ap slot_number (sym c.enum_told-1.given.1 ∙ c.slot_at-found.ensures)
+returns-in-NoSlot c = ap slot_number (sym c.in-NoSlot.is ∙ c.slot_at-found.ensures)

@@ -1,5 +1,4 @@
 -- `linked_list::pop` meets its contract: the front removed. Assumes nothing.
-use borrow.Author.Rules.{rules}
 use native.Mathlib.Omega.{arith}
 use Rattle.linked_list.proofs.ReachLaws.{head_here}
 use Rattle.linked_list.proofs.StoreLaws.{pop_made}

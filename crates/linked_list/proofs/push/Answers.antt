@@ -1,5 +1,4 @@
 -- `linked_list::push` meets its contract: its stores are those of the definition. Assumes nothing.
-use borrow.Author.Rules.{rules}
 use native.Mathlib.Omega.{arith}
 use Rattle.linked_list.proofs.ReachLaws.{head_here, field_here, linked_here, few_spans_lem}
 use Rattle.linked_list.proofs.StoreLaws.{push_made}

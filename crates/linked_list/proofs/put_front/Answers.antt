@@ -1,5 +1,4 @@
 -- `linked_list::put_front` meets its contract: the head is stored to exactly where there is no link before. Assumes nothing.
-use borrow.Author.Rules.{rules}
 use borrow.Author.Tests.{eq-eqb, ne_eqb}
 use Rattle.linked_list.proofs.put_front.Goals as goal
 

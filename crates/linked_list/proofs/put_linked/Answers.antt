@@ -1,5 +1,4 @@
 -- `linked_list::put_linked` meets its contract: a link that is not 0 names a span whose cells are there. Assumes nothing.
-use borrow.Author.Rules.{rules}
 use borrow.Author.Tests.{eq-eqb, ne_eqb}
 use Prim.Native.Nat.{◌-◌}
 use native.Mathlib.Omega.{arith}

@@ -1,5 +1,4 @@
 -- `linked_list::put_links` meets its contract: two stores. Assumes nothing.
-use borrow.Author.Rules.{rules}
 use Rattle.linked_list.proofs.put_links.Goals as goal
 
 pub returns : goal.returns

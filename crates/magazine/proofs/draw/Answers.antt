@@ -1,7 +1,6 @@
 -- `magazine::draw` meets its contract. Assumes nothing.
 use mathlib.Core.Path.{◌∙◌}
 use native.Mathlib.Omega.{arith}
-use borrow.Author.Rules.{rules}
 use Rattle.magazine.proofs.StepLaws.{draw_made, drawn_in}
 use Rattle.magazine.proofs.draw.Goals as goal
 

@@ -1,20 +1,12 @@
 -- `magazine::is_cached` meets its contract. The loop's invariant: no entry passed is the one looked for. The measure is the entries left.
 -- Assumes nothing.
-use mathlib.Core.Path.{◌≡◌, refl, sym, ◌∙◌}
-use mathlib.Core.Bool.{Bool, true, false}
+use mathlib.Core.Path.{◌≡◌}
+use mathlib.Core.Bool.{false}
 use mathlib.Core.List.{List}
-use Prim.Native.Nat.{ℕ, ◌+◌, ◌-◌, ◌<◌, ◌≤◌}
-use native.Mathlib.Omega.{arith}
+use Prim.Native.Nat.{ℕ, ◌+◌, ◌-◌, ◌≤◌}
 use lib.Dec.{eqb}
 use lib.ListN.{get_or}
-use borrow.Author.Rules.{rules}
-use borrow.Author.Tests.{eq-eqb, ne_eqb}
 use Rattle.laws.specs.Choice.{some}
-use Rattle.laws.proofs.SomeLaws.{some_next, some_here}
-use Rattle.tables.specs.declared.ClassHeap.{ClassHeap}
-use Rattle.tables.specs.Cells.{tables}
-use Rattle.magazine.specs.Magazine.{is_cached}
-use Rattle.magazine.specs.Room.{count_in}
 use Rattle.magazine.proofs.is_cached.Given as goal
 
 -- the first i of c entries are others

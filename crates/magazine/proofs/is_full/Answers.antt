@@ -1,5 +1,4 @@
 -- `magazine::is_full` meets its contract. Assumes nothing.
-use borrow.Author.Rules.{rules}
 use Rattle.magazine.proofs.is_full.Goals as goal
 
 pub returns : goal.returns

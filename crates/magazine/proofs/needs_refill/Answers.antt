@@ -1,5 +1,4 @@
 -- `magazine::needs_refill` meets its contract. Assumes nothing.
-use borrow.Author.Rules.{rules}
 use Rattle.magazine.proofs.needs_refill.Goals as goal
 
 pub returns : goal.returns

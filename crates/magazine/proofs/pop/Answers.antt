@@ -1,6 +1,5 @@
 -- `magazine::pop` meets its contract. Assumes nothing.
 use mathlib.Core.Path.{◌∙◌}
-use borrow.Author.Rules.{rules}
 use Rattle.magazine.proofs.StepLaws.{pop_made}
 use Rattle.magazine.proofs.pop.Goals as goal
 

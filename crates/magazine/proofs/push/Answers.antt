@@ -1,5 +1,4 @@
 -- `magazine::push` meets its contract. Assumes nothing.
-use borrow.Author.Rules.{rules}
 use Rattle.magazine.proofs.StepLaws.{push_made}
 use Rattle.magazine.proofs.push.Goals as goal
 

@@ -1,6 +1,5 @@
 -- `magazine_layout::capacity_for` meets its contract. Assumes nothing.
 use native.Mathlib.Omega.{arith}
-use borrow.Author.Rules.{rules}
 use Rattle.magazine_layout.specs.Layout.{magazine_bytes, least_capacity, most_capacity, capacity_for}
 use Rattle.magazine_layout.proofs.capacity_for.Goals as goal
 

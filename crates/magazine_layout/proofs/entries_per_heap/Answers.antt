@@ -1,5 +1,4 @@
 -- `magazine_layout::entries_per_heap` meets its contract. Assumes nothing.
-use borrow.Author.Rules.{rules}
 use Rattle.magazine_layout.specs.Layout.{entries_per_heap}
 use Rattle.magazine_layout.proofs.entries_per_heap.Goals as goal
 

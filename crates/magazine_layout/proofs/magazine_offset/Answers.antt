@@ -2,10 +2,9 @@
 -- Assumes nothing.
 use mathlib.Core.List.{List}
 use mathlib.Core.Path.{◌≡◌, sym, ◌∙◌, ap}
-use Prim.Native.Nat.{ℕ, ◌+◌, ◌-◌, ◌≤◌, ◌<◌}
+use Prim.Native.Nat.{ℕ, ◌+◌, ◌≤◌, ◌<◌}
 use native.Mathlib.Omega.{arith}
 use lib.ListN.{length}
-use borrow.Author.Rules.{rules}
 use Rattle.size_classes.specs.SlotSizes.{slot_size, Admissible, most_classes}
 use Rattle.magazine_layout.specs.Layout.{capacity_for, most_capacity, magazine_offset}
 use Rattle.magazine_layout.proofs.LayoutLaws.{capacity_most, offset_first, offset_next, offset_small}

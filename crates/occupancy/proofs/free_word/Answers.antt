@@ -1,5 +1,4 @@
 -- `free_word` meets its contract: the rotation and the count of zeros are the scan for the first clear bit. Assumes nothing.
-use borrow.Author.Rules.{rules}
 use mathlib.Core.Path.{ap, ◌∙◌}
 use Prim.Native.Nat.{ℕ, ◌+◌, ◌%◌}
 use native.Mathlib.Nat.{mod-lt}

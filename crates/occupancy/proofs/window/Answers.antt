@@ -1,5 +1,4 @@
 -- `window` meets its contract: rotation, deposit and rotation back are the scan for the first free bits. Assumes nothing.
-use borrow.Author.Rules.{rules}
 use borrow.Author.Tests.{le-leb, lt-leb}
 use mathlib.Core.Bool.{Bool, cond}
 use mathlib.Core.Path.{sym, ap, ◌∙◌}

@@ -1,6 +1,5 @@
 -- `tables::base_of` meets its contract. Assumes nothing.
 use native.Mathlib.Omega.{arith}
-use borrow.Author.Rules.{rules}
 use Rattle.size_classes.specs.SlotSizes.{most_classes}
 use Rattle.magazine_layout.specs.Layout.{most_capacity}
 use Rattle.magazine_layout.proofs.LayoutLaws.{offset_small}

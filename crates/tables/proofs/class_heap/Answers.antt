@@ -1,5 +1,4 @@
 -- `tables::class_heap` meets its contract. Assumes nothing.
-use borrow.Author.Rules.{rules}
 use Rattle.tables.specs.Shape.{class_heap}
 use Rattle.tables.proofs.class_heap.Goals as goal
 

@@ -1,5 +1,4 @@
 -- `tables::head` meets its contract: the cell read is the one named. Assumes nothing.
-use borrow.Author.Rules.{rules}
 use Rattle.tables.proofs.head.Goals as goal
 
 pub returns : goal.returns

@@ -1,5 +1,4 @@
 -- `tables::put_head` meets its contract: the cell stored to is the one named. Assumes nothing.
-use borrow.Author.Rules.{rules}
 use Rattle.tables.proofs.put_head.Goals as goal
 
 pub returns : goal.returns

@@ -1,17 +1,15 @@
 -- `Occupancy::claim_up_to` meets its contract: the first clear bit of the summary is the first word with room. Assumes nothing.
 use mathlib.Core.Bool.{Bool, cond}
-use mathlib.Core.Logic.{⊎_elim}
 use mathlib.Core.Path.{sym, ap, ◌∙◌}
 use Prim.Native.Nat.{ℕ, ◌+◌}
 use native.Mathlib.Omega.{arith}
 use lib.Bits.{bit_or}
-use borrow.Author.Tests.{eq-eqb, ne_eqb, eqb-true, eqb-false}
+use borrow.Author.Tests.{eq-eqb, ne_eqb, eqb-false}
 use Rattle.laws.specs.Word.{all_ones, set_bit}
 use Rattle.laws.proofs.WordLaws.{ones_most}
 use Rattle.occupancy.specs.Occupied.{word_of}
 use Rattle.occupancy.proofs.RightLaws.{count_most}
 use Rattle.occupancy.proofs.ClaimLaws.{claim_none, claim_full, claim_made}
-use borrow.Author.Rules.{rules}
 use Rattle.occupancy.proofs.Occupancy.claim_up_to.Goals as goal
 use Rattle.occupancy.proofs.Occupancy.claim_up_to.Goals.{then-max-eq0-via-then-max-eq0, then-max-eq0-via-else-max-eq0+then-summary}
 

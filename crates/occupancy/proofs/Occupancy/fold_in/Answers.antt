@@ -1,12 +1,10 @@
 -- `Occupancy::fold_in` meets its contract: the fold of the words still to come is the fold of all. Assumes nothing.
 use borrow.Author.Rules.{rules}
 use mathlib.Core.Path.{◌≡◌, sym, ◌∙◌}
-use mathlib.Core.Logic.{⊎_elim}
-use Prim.Native.Nat.{ℕ, ◌-◌, ◌≤◌, ◌<◌}
+use Prim.Native.Nat.{◌<◌}
 use lib.ListN.{get_or}
 use native.Mathlib.Omega.{arith}
-use Rattle.occupancy.specs.Occupied.{release_slots_by_word, fold_from, fold_in}
-use Rattle.occupancy.specs.Right.{Right, Pending}
+use Rattle.occupancy.specs.Occupied.{release_slots_by_word, fold_in}
 use Rattle.occupancy.proofs.ReleaseLaws.{released_none, next_held, next_right, fold_start, fold_turn, fold_done}
 use Rattle.occupancy.proofs.Occupancy.fold_in.Goals as goal
 use Rattle.occupancy.proofs.Occupancy.fold_in.Goals.{then-freed-ne0, else-freed-ne0}

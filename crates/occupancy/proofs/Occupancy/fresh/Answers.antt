@@ -1,15 +1,14 @@
 -- `Occupancy::fresh` meets its contract: the words filled, with the partial one, are the fresh words. Assumes nothing.
 use borrow.Author.Rules.{rules}
-use mathlib.Core.Logic.{⊎_elim}
 use mathlib.Core.Path.{◌≡◌, ap, ◌∙◌}
-use Prim.Native.Nat.{◌-◌, ◌/◌, ◌%◌, ◌≤◌}
+use Prim.Native.Nat.{◌/◌, ◌%◌}
 use native.Mathlib.Omega.{arith}
 use native.Mathlib.Nat.{mod-lt}
 use lib.Dec.{lit<}
 use lib.ListN.{set}
 use Rattle.bits.proofs.RotationLaws.{ones_shl}
 use Rattle.occupancy.specs.Occupied.{fresh_words, fresh_of}
-use Rattle.occupancy.proofs.FreshLaws.{Filled, filled_start, filled_turn, filled_whole, filled_partial}
+use Rattle.occupancy.proofs.FreshLaws.{filled_start, filled_turn, filled_whole, filled_partial}
 use Rattle.occupancy.proofs.Occupancy.fresh.Goals as goal
 use Rattle.occupancy.proofs.Occupancy.fresh.Goals.{then-full_words-lt64, else-full_words-lt64}
 

@@ -2,7 +2,6 @@
 use Prim.Native.Nat.{◌-◌, ◌/◌}
 use lib.ListN.{set}
 use Rattle.occupancy.specs.Occupied.{release_slot}
-use borrow.Author.Rules.{rules}
 use Rattle.occupancy.proofs.Occupancy.release_slot.Goals as goal
 
 pub returns : goal.returns

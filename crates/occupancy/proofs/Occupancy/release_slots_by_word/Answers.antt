@@ -1,5 +1,4 @@
 -- `Occupancy::release_slots_by_word` meets its contract: the slots freed are taken, so `& !` is a difference. Assumes nothing.
-use borrow.Author.Rules.{rules}
 use mathlib.Core.Path.{◌≡◌}
 use Prim.Native.Nat.{◌-◌, ◌^◌}
 use native.Mathlib.Omega.{arith}
