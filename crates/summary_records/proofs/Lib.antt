@@ -1,4 +1,3 @@
 pub mod CountedLaws
 pub mod FilledRecords
 pub mod NamedRecords
-pub mod SliceRow

@@ -39,7 +39,7 @@ fn record_at(flat: &[u64], i: usize) -> ClassRecord
 }
 
 // The flat numbers of all classes, and the number of the summary's answer.
-#[derive(Drop)]
+#[derive(Clone, Copy)]
 pub struct Counted {
     pub number: u64,
     pub cells: [u64; 240],
