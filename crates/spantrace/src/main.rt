@@ -6,7 +6,10 @@ ghost use Rattle.io.specs.Counts.{IsPrefixLen};
 ghost use Rattle.calls.specs.Batch.{record_bytes};
 ghost use Rattle.spantrace.specs.Trace.{WroteAnswer, place_of, naming, named_in};
 
-use libc::{STDIN_FILENO, STDOUT_FILENO};
+// Standard input and output.
+const STDIN_FILENO: i32 = 0;
+
+const STDOUT_FILENO: i32 = 1;
 
 // The tables of 4 heaps and 32 spans have 4160 bitmap words, 160 record cells, 3168 entries and 960 heads.
 const HEAPS: u64 = 4;

@@ -1,5 +1,4 @@
 -- `summary_records::count_all` meets its contract: the flat summary over 01's list and limit, in cells of 0. Assumes nothing.
-use borrow.Author.Rules.{rules}
 use native.Mathlib.Omega.{arith}
 use Rattle.size_classes.proofs.SlotSizeLaws.{slot_sizes_admissible}
 use Rattle.tables.specs.Shape.{most_spans}

@@ -15,7 +15,6 @@ use Rattle.summary_records.specs.declared.Counted.{Counted}
 use Rattle.summary_records.specs.Structured.{structured, filled, summary_structs}
 use Rattle.summary_records.specs.Counting.{base_classes, counted_of, counted_turns}
 use Rattle.summary_records.proofs.CountedLaws.{counted_within, counted_there, counted_structs}
-use Rattle.summary_records.proofs.FilledRecords.{filled_length}
 use Rattle.summary_records.proofs.laggersten_summary.Goals as goal
 
 -- At most 48 records are written.
@@ -67,7 +66,7 @@ bounds-out-i c =
     omega (
       arith,
       turns_within a.heaps a.spans (tables a.bits.now a.records.now a.entries.now a.heads.now a.used) (length a.out.now) _ _
-      c.count_all-s.ensures c.turns_of-n.ensures,
+          c.count_all-s.ensures c.turns_of-n.ensures,
       c.loop-i-test.true,
       c.loop-i.auto.out,
     )

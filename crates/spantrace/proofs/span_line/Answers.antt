@@ -1,0 +1,41 @@
+-- `spantrace::span_line` meets its contract: every cell it reads is within its table. Assumes nothing.
+use Rattle.std.proofs.Common.{arith, rules}
+use Rattle.tables.specs.Shape.{bitmap_cells, record_cells}
+use Rattle.tables.specs.Cells.{span_cell}
+use Rattle.spantrace.proofs.TraceLaws.{sizes_admissible, heap_named, class_named, home_here, head_here}
+use Rattle.spantrace.proofs.span_line.Goals as goal
+
+pub field-class-requires : goal.field-class-requires
+unfolding span_cell record_cells
+field-class-requires c = omega (arith, c.requires.s_bound)
+
+pub field-owner-requires : goal.field-owner-requires
+unfolding span_cell record_cells
+field-owner-requires c = omega (arith, c.requires.s_bound)
+
+pub class_heap-k-requires : goal.class_heap-k-requires
+class_heap-k-requires c =
+    record {
+      admissible = sizes_admissible c.slot_sizes-sizes.ensures;
+      heap_lt_most_heaps = (heap_named (omega (arith, c.if-owner-ge-HEAPS.false)), class_named _ c.slot_sizes-sizes.ensures (omega (arith, c.if-class-ge-CLASSES.false)));
+    }
+
+pub head-count-requires : goal.head-count-requires
+head-count-requires c = head_here (home_here _ _ _ _ c.slot_sizes-sizes.ensures c.class_heap-k.ensures (omega (arith, c.if-owner-ge-HEAPS.false)) (omega (arith, c.if-class-ge-CLASSES.false))) (omega arith) (omega arith)
+
+pub field-occupied-requires : goal.field-occupied-requires
+unfolding span_cell record_cells
+field-occupied-requires c = omega (arith, c.requires.s_bound)
+
+pub head-kept-requires : goal.head-kept-requires
+head-kept-requires c = head_here (home_here _ _ _ _ c.slot_sizes-sizes.ensures c.class_heap-k.ensures (omega (arith, c.if-owner-ge-HEAPS.false)) (omega (arith, c.if-class-ge-CLASSES.false))) (omega arith) (omega arith)
+
+pub place-letter-requires : goal.place-letter-requires
+place-letter-requires c = c.requires.s_bound
+
+pub pending-pending-requires : goal.pending-pending-requires
+unfolding bitmap_cells
+pending-pending-requires c = record { there = omega (arith, c.requires.s_bound) }
+
+pub cached-cached-requires : goal.cached-cached-requires
+cached-cached-requires c = omega (arith, (home_here _ _ _ _ c.slot_sizes-sizes.ensures c.class_heap-k.ensures (omega (arith, c.if-owner-ge-HEAPS.false)) (omega (arith, c.if-class-ge-CLASSES.false))).magazine, c.if-count-k.false)
