@@ -1,10 +1,9 @@
 -- One span of the smallest shape: a new one, a remote free and its fold, and a block's four states. Assumes nothing.
 use mathlib.Core.Path.{◌≡◌, refl}
-use mathlib.Core.Bool.{Bool, true, false}
-use mathlib.Core.List.{List, [], ◌∷◌, ◌++◌}
-use Prim.Native.Nat.{ℕ, ◌+◌, ◌-◌, ◌^◌}
+use mathlib.Core.List.{[], ◌∷◌, ◌++◌}
+use Prim.Native.Nat.{◌+◌, ◌-◌, ◌^◌}
 use lib.Count.{ones_in}
-use lib.ListN.{length, take, drop, set, replicate}
+use lib.ListN.{drop, set, replicate}
 use Rattle.laws.specs.Choice.{sum, some}
 use Rattle.laws.specs.Word.{bits_from}
 use Rattle.size_classes.specs.SlotSizes.{largest_slot}
@@ -13,9 +12,8 @@ use Rattle.magazine_layout.specs.Layout.{magazine_bytes, least_capacity, most_ca
 use Rattle.occupancy.specs.Occupied.{fresh_words, fresh_of, release_slot, release_slots_by_word, fold_from, fold_in}
 use Rattle.tables.specs.Shape.{bitmap_cells, record_cells, head_cells, row_of, base_of, class_heap}
 use Rattle.tables.specs.Cells.{Tables, tables, occupied_at, bitmap_cell, span_cell, head_cell, entry_of}
-use Rattle.tables.proofs.Tiny.{tiny, one, blank}
+use Rattle.tables.proofs.Tiny.{tiny, one}
 use Rattle.magazine.specs.Magazine.{is_cached}
-use Rattle.span.specs.declared.BlockState.{BlockState}
 use Rattle.span.specs.declared.BlockState.TheVariants.{Free, Cached, Pending, Out}
 use Rattle.span.specs.Span.{stored, dealloc_slot, reclaim_pending, folded, remote_free, claimed_entries, new_span}
 use Rattle.span.specs.State.{state_of}

@@ -1,5 +1,5 @@
 -- One span in the lent cells: load and store of its occupancy, pending frees, a new span. Assumes nothing.
-use Rattle.std.specs.Prelude.{Bool, cond, List, [], ◌∷◌, ◌++◌, ℕ, ◌+◌, ◌*◌, ◌/◌, ◌%◌, take, drop, get_or, set, replicate, eqb, leb}
+use Rattle.std.specs.Prelude.{Bool, cond, List, [], ◌∷◌, ◌++◌, ℕ, ◌+◌, ◌*◌, ◌/◌, ◌%◌, take, drop, set, replicate, eqb, leb}
 use Rattle.std.proofs.lemmas.List.Edits.{sets}
 use Rattle.std.proofs.Math.Seq.{paste}
 use Rattle.laws.specs.Word.{set_bit, bits_from}

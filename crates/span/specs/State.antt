@@ -1,5 +1,5 @@
 -- The state of a block: free, cached, pending or out. Everything that asks whether a block is out asks this. Assumes nothing.
-use Rattle.std.specs.Prelude.{Bool, cond, ℕ, ◌/◌, ◌%◌, eqb}
+use Rattle.std.specs.Prelude.{Bool, cond, ℕ, ◌/◌, ◌%◌}
 use Rattle.laws.specs.Word.{is_set}
 use Rattle.span.specs.declared.BlockState.{BlockState}
 use Rattle.span.specs.declared.BlockState.TheVariants.{Free, Cached, Pending, Out}

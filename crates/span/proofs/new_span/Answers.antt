@@ -1,10 +1,10 @@
 -- `span::new_span` meets its contract. Assumes nothing.
 use borrow.Author.Rules.{rules}
-use mathlib.Core.Path.{◌≡◌, ap₂, ◌∙◌}
+use mathlib.Core.Path.{ap₂}
 use mathlib.Core.List.{List}
 use Prim.Native.Nat.{ℕ, ◌+◌}
 use native.Mathlib.Omega.{arith}
-use Rattle.tables.specs.Cells.{tables, span_cell}
+use Rattle.tables.specs.Cells.{tables}
 use Rattle.tables.proofs.CellLaws.{span_least}
 use Rattle.span.specs.Span.{new_span}
 use Rattle.span.proofs.CellsThere.{field_there}

@@ -1,10 +1,9 @@
 -- `span::put_words` meets its contract: after i turns the first i words are copied. Assumes nothing.
 use borrow.Author.Rules.{rules}
 use mathlib.Core.Path.{◌≡◌}
-use Prim.Native.Nat.{ℕ, ◌-◌, ◌≤◌}
 use native.Mathlib.Omega.{arith}
 use lib.ListN.{length}
-use lib.Seq.{paste, paste-zero}
+use lib.Seq.{paste-zero}
 use Rattle.laws.proofs.PasteLaws.{paste_more}
 use Rattle.span.proofs.put_words.Goals as goal
 

@@ -1,11 +1,8 @@
 -- `span::put_words` meets its contract: after i turns the first i words are copied. Assumes nothing.
-use borrow.Author.Rules.{rules}
 use mathlib.Core.Path.{◌≡◌}
-use Prim.Native.Nat.{ℕ, ◌-◌, ◌≤◌}
-use native.Mathlib.Omega.{arith}
+use Prim.Native.Nat.{◌-◌, ◌≤◌}
 use lib.ListN.{length}
-use lib.Seq.{paste, paste-zero}
-use Rattle.laws.proofs.PasteLaws.{paste_more}
+use lib.Seq.{paste}
 use Rattle.span.proofs.put_words.Given as goal
 
 abbrev pub invariant-loop-i : goal.invariant-loop-i

@@ -1,9 +1,7 @@
 -- `span::remote_free` meets its contract. Assumes nothing.
-use borrow.Author.Rules.{rules}
-use mathlib.Core.Path.{◌≡◌, refl, ap, ◌∙◌}
-use Prim.Native.Nat.{ℕ, ◌+◌, ◌/◌, ◌%◌, ◌<◌}
+use Prim.Native.Nat.{ℕ, ◌/◌, ◌<◌}
 use native.Mathlib.Omega.{arith}
-use lib.ListN.{length, length-set}
+use lib.ListN.{length-set}
 use Rattle.size_classes.specs.Slots.{most_slots}
 use Rattle.span.proofs.CellsThere.{summary_there, remote_word_there}
 use Rattle.span.proofs.SpanSteps.{remote_is}

@@ -1,5 +1,4 @@
 -- `span::store` meets its contract: the summary, the words and the count are stored in turn. Assumes nothing.
-use borrow.Author.Rules.{rules}
 use mathlib.Core.Path.{◌≡◌, ap, ◌∙◌}
 use native.Mathlib.Omega.{arith}
 use lib.ListN.{length, length-set}

@@ -1,10 +1,9 @@
 -- `span::words_from` meets its contract: after i turns the first i words are gathered. Assumes nothing.
 use borrow.Author.Rules.{rules}
 use mathlib.Core.Path.{◌≡◌}
-use Prim.Native.Nat.{ℕ, ◌-◌, ◌≤◌}
 use native.Mathlib.Omega.{arith}
-use lib.ListN.{length, drop, replicate}
-use lib.Seq.{paste, paste-zero}
+use lib.ListN.{drop, replicate}
+use lib.Seq.{paste-zero}
 use Rattle.laws.proofs.PasteLaws.{gather_more, gather_all}
 use Rattle.span.proofs.words_from.Goals as goal
 

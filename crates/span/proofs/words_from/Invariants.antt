@@ -1,11 +1,8 @@
 -- `span::words_from` meets its contract: after i turns the first i words are gathered. Assumes nothing.
-use borrow.Author.Rules.{rules}
 use mathlib.Core.Path.{◌≡◌}
-use Prim.Native.Nat.{ℕ, ◌-◌, ◌≤◌}
-use native.Mathlib.Omega.{arith}
-use lib.ListN.{length, drop, replicate}
-use lib.Seq.{paste, paste-zero}
-use Rattle.laws.proofs.PasteLaws.{gather_more, gather_all}
+use Prim.Native.Nat.{◌-◌, ◌≤◌}
+use lib.ListN.{length, drop}
+use lib.Seq.{paste}
 use Rattle.span.proofs.words_from.Given as goal
 
 abbrev pub invariant-loop-i : goal.invariant-loop-i
