@@ -52,11 +52,11 @@ fn text(source: &str, played: &Played) -> Result<String, String> {
         .collect();
     Ok(format!(
         "-- Answers and cells of the original, written by `oracle/record`: {source}. Assumes nothing.
-use mathlib.Core.Path.{{_≡_, refl}}
-use mathlib.Core.List.{{List, [], _∷_}}
+use mathlib.Core.Path.{{◌≡◌, refl}}
+use mathlib.Core.List.{{List, [], ◌∷◌}}
 use Prim.Native.Nat.{{ℕ}}
-use Rattle·calls.specs.Run.{{Call}}
-use Rattle·replay.specs.Replay.{{al, fr, replay, Sparse, sparse}}
+use Rattle.calls.specs.Run.{{Call}}
+use Rattle.replay.specs.Replay.{{al, fr, replay, Sparse, sparse}}
 
 -- {count} calls
 abbrev calls : List Call

@@ -1,8 +1,7 @@
 -- The steps of the smallest shape's one class, worked: 8 slots a span, a magazine of 8, low water 2. Assumes nothing.
 use mathlib.Core.Path.{◌≡◌, refl}
-use mathlib.Core.Bool.{Bool, true, false}
 use mathlib.Core.List.{List, [], ◌∷◌}
-use Prim.Native.Nat.{ℕ, zero, suc, ◌+◌}
+use Prim.Native.Nat.{ℕ, zero, suc}
 use Rattle.tables.specs.Cells.{Tables, partial_list, full_list, counter, set_head, occupied_at}
 use Rattle.linked_list.specs.Lists.{list_of}
 use Rattle.span.specs.Span.{remote_free}

@@ -1,5 +1,5 @@
 -- The steps of one class of one heap: place, reclaim, reactivate, create, replenish, refill, give back, flush. Assumes nothing.
-use Rattle.std.specs.Prelude.{Bool, ◌&&◌, not, cond, List, ℕ, zero, suc, ◌+◌, ◌-◌, get_or, eqb, leb, ltb}
+use Rattle.std.specs.Prelude.{Bool, ◌&&◌, cond, List, ℕ, zero, suc, ◌+◌, ◌-◌, get_or, eqb, ltb}
 use Rattle.occupancy.specs.declared.Claim.{Claim}
 use Rattle.occupancy.specs.declared.Claimed.{Claimed}
 use Rattle.occupancy.specs.declared.Claimed.TheVariants.{Nothing, Taken}

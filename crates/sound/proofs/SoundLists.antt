@@ -1,6 +1,6 @@
 -- The lists of a sound table, as their laws have them: every used span stands once in the lists and the reserve of its row, and these hold no other
 -- span. So they are the lists by home and rank; and these give back each clause on lists. Assumes nothing.
-use mathlib.Core.Path.{◌≡◌, refl, sym, ap, subst, ◌∙◌}
+use mathlib.Core.Path.{◌≡◌, sym, ap, subst, ◌∙◌}
 use Prim.Native.Nat.{ℕ, ◌<◌, ◌≤◌}
 use native.Mathlib.Omega.{arith}
 use Rattle.laws.specs.Links.{All, Chain}

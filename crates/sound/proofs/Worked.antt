@@ -2,7 +2,7 @@
 use mathlib.Core.Path.{◌≡◌, refl}
 use mathlib.Core.Bool.{Bool, true, false}
 use mathlib.Core.List.{List, [], ◌∷◌, ◌++◌}
-use Prim.Native.Nat.{ℕ, ◌+◌, ◌-◌, ◌^◌}
+use Prim.Native.Nat.{ℕ, ◌-◌, ◌^◌}
 use native.Mathlib.Decide.{dec_le, dec_lt, ℕ_discrete}
 use lib.ListN.{set, replicate}
 use Rattle.laws.specs.Choice.{sum}
@@ -11,8 +11,8 @@ use Rattle.laws.specs.Links.{times, walk}
 use Rattle.size_classes.specs.SlotSizes.{largest_slot}
 use Rattle.size_classes.specs.Slots.{most_slots, fewest_slots, slots_per_span}
 use Rattle.magazine_layout.specs.Layout.{magazine_bytes, least_capacity, most_capacity, capacity_for, low_water_for, magazine_offset, entries_per_heap}
-use Rattle.tables.specs.Shape.{Shape, bitmap_cells, record_cells, head_cells, row_of, base_of, class_heap}
-use Rattle.tables.specs.Cells.{Tables, tables, bitmap_cell, span_cell, head_cell, entry_span, entry_slot}
+use Rattle.tables.specs.Shape.{bitmap_cells, record_cells, head_cells, row_of, base_of, class_heap}
+use Rattle.tables.specs.Cells.{tables, bitmap_cell, span_cell, head_cell, entry_span, entry_slot}
 use Rattle.tables.proofs.Tiny.{tiny, blank}
 use Rattle.sound.specs.Decided.{span_filled, span_sound, belongs, list_sound, entry_sound, magazine_sound, class_sound, sound, is_sound}
 

@@ -1,9 +1,8 @@
 -- Soundness is decided: the decision computes, and the calls test it. Assumes nothing.
-use Rattle.std.specs.Prelude.{◌≡◌, Bool, true, false, not, ℕ, ◌^◌, ◌<◌, ◌≤◌, eqb}
+use Rattle.std.specs.Prelude.{Bool, true, false, not, ℕ, ◌^◌, eqb}
 use Rattle.std.proofs.Math.Bool.{Bool-discrete}
 use Rattle.std.proofs.Math.Decide.{dec_lt, dec_le, ℕ_discrete}
 use Rattle.laws.specs.Choice.{is_yes}
-use Rattle.laws.specs.Links.{All, Chain}
 use Rattle.laws.specs.Decide.{both, three, same, given, never, below, all_of, chain}
 use Rattle.laws.specs.Word.{all_ones, is_set}
 use Rattle.size_classes.specs.Slots.{most_slots}
@@ -12,7 +11,7 @@ use Rattle.tables.specs.Shape.{Shape, classes, class_heap, bitmap_cells}
 use Rattle.tables.specs.Cells.{Tables, bitmap_word, local_summary, local_word, remote_summary, remote_word, class_at, owner_at, occupied_at, previous_at, next_at, head_at, partial_list, full_list, empty_list, reserve, count_at, entry_at, entry_span, entry_slot}
 use Rattle.linked_list.specs.Lists.{list_of}
 use Rattle.span.specs.State.{is_occupied, is_pending}
-use Rattle.sound.specs.Sound.{home_of, set_bits, places_in, SpanFilled, SpanSound, Belongs, EntrySound, MagazineSound, ListSound, Partial, Full, Empty, ClassSound, Sound}
+use Rattle.sound.specs.Sound.{home_of, set_bits, places_in, SpanFilled, SpanSound, Belongs, EntrySound, MagazineSound, ListSound, ClassSound, Sound}
 
 unfoldable pub span_filled : (g : Shape) (t : Tables) (s : ℕ) → Dec (SpanFilled g t s)
 span_filled g t s =

@@ -1,6 +1,6 @@
 -- What of soundness speaks of cells and not of lists. Every small step keeps it, in the middle of a call too, and it is what code needs for its places
 -- and subtractions. Assumes nothing.
-use Rattle.std.specs.Prelude.{◌≡◌, Bool, true, ℕ, ◌<◌, ◌≤◌}
+use Rattle.std.specs.Prelude.{◌≡◌, true, ℕ, ◌<◌, ◌≤◌}
 use Rattle.size_classes.specs.SlotSizes.{Admissible}
 use Rattle.tables.specs.Shape.{Shape, classes, class_heap}
 use Rattle.tables.specs.Cells.{Tables, as_stated, previous_at, next_at, head_at, reserve}

@@ -1,9 +1,9 @@
 -- What a sound table is, clause by clause as 01 has it ("A table is sound exactly when"), over any list of slot sizes. It speaks of used spans and of
 -- entries below a count only: "Unused spans and entries at or above a count may hold anything." Assumes nothing.
-use Rattle.std.specs.Prelude.{◌≡◌, Bool, true, false, not, cond, ℕ, ◌+◌, ◌^◌, ◌<◌, ◌≤◌, eqb}
+use Rattle.std.specs.Prelude.{◌≡◌, true, false, not, cond, ℕ, ◌+◌, ◌^◌, ◌<◌, ◌≤◌, eqb}
 use Rattle.laws.specs.Choice.{sum}
 use Rattle.laws.specs.Links.{All, times, Chain}
-use Rattle.laws.specs.Word.{all_ones, bit_at, is_set}
+use Rattle.laws.specs.Word.{all_ones, is_set}
 use Rattle.size_classes.specs.Slots.{most_slots}
 use Rattle.tables.specs.declared.ClassHeap.{ClassHeap}
 use Rattle.tables.specs.Shape.{Shape, classes, class_heap, bitmap_cells}

@@ -1,13 +1,13 @@
 -- The loop that pushes the slots of a mask, in ascending number: what is left to push, turn by turn. Assumes nothing.
 use mathlib.Core.Path.{◌≡◌, refl, sym, ap, ◌∙◌}
 use mathlib.Core.List.{List, [], ◌∷◌}
-use Prim.Native.Nat.{ℕ, zero, suc, ◌+◌, ◌-◌, ◌/◌, ◌%◌, ◌<◌, ◌≤◌}
+use Prim.Native.Nat.{ℕ, suc, ◌+◌, ◌-◌, ◌/◌, ◌%◌, ◌<◌, ◌≤◌}
 use native.Mathlib.Nat.{add-zero}
 use native.Mathlib.Omega.{arith}
 use lib.ListN.{length, length-set}
 use Rattle.laws.specs.Word.{bits_from}
 use Rattle.tables.specs.declared.ClassHeap.{ClassHeap}
-use Rattle.tables.specs.Cells.{Tables, tables, entry_of}
+use Rattle.tables.specs.Cells.{Tables, tables}
 use Rattle.magazine.specs.Magazine.{push_entry, push_entries}
 use Rattle.magazine.specs.Room.{Room, count_in}
 use Rattle.magazine.proofs.MagazineLaws.{push_count}

@@ -1,13 +1,10 @@
 -- `span_steps::claim` meets its contract. Assumes nothing.
-use borrow.Author.Rules.{rules}
-use mathlib.Core.Path.{◌≡◌, ap, ◌∙◌}
+use mathlib.Core.Path.{ap, ◌∙◌}
 use mathlib.Core.List.{[]}
-use Prim.Native.Nat.{ℕ}
 use Rattle.occupancy.specs.declared.Occupancy.{Occupancy}
 use Rattle.occupancy.specs.declared.Claim.{Claim}
 use Rattle.occupancy.specs.Occupied.{claim}
 use Rattle.tables.specs.Cells.{tables}
-use Rattle.span.specs.Room.{occupancy_in}
 use Rattle.span.specs.Span.{stored}
 use Rattle.span_steps.proofs.claim.Goals as goal
 

@@ -1,8 +1,6 @@
 -- `span_steps::dealloc_slot` meets its contract. Assumes nothing.
-use borrow.Author.Rules.{rules}
-use mathlib.Core.Path.{◌≡◌, ap, ◌∙◌}
+use mathlib.Core.Path.{ap, ◌∙◌}
 use mathlib.Core.List.{[]}
-use Prim.Native.Nat.{ℕ}
 use native.Mathlib.Omega.{arith}
 use Rattle.size_classes.specs.Slots.{most_slots}
 use Rattle.occupancy.specs.declared.Occupancy.{Occupancy}

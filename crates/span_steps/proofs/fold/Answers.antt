@@ -1,7 +1,5 @@
 -- `span_steps::fold` meets its contract. Assumes nothing.
-use borrow.Author.Rules.{rules}
-use mathlib.Core.Path.{◌≡◌, sym, ◌∙◌}
-use native.Mathlib.Omega.{arith}
+use mathlib.Core.Path.{sym, ◌∙◌}
 use Rattle.span.specs.Span.{folded}
 use Rattle.span_steps.proofs.fold.Goals as goal
 

@@ -1,11 +1,10 @@
 -- `span_steps::push_claimed` meets its contract: what is left to push falls by the entry pushed. Assumes nothing.
 use borrow.Author.Rules.{rules}
-use mathlib.Core.Path.{◌≡◌, ap, ◌∙◌}
-use mathlib.Core.Logic.{⊎_elim}
-use Prim.Native.Nat.{ℕ, ◌-◌, ◌%◌}
+use mathlib.Core.Path.{◌≡◌}
+use Prim.Native.Nat.{◌%◌}
 use native.Mathlib.Omega.{arith}
 use Rattle.span.specs.Span.{claimed_entries}
-use Rattle.span_steps.proofs.PushingLaws.{Pushing, starts, passes, has_room, pushes, ends}
+use Rattle.span_steps.proofs.PushingLaws.{starts, passes, has_room, pushes, ends}
 use Rattle.span_steps.proofs.push_claimed.Goals as goal
 use Rattle.span_steps.proofs.push_claimed.Goals.{then-rest-eq1, else-rest-eq1}
 

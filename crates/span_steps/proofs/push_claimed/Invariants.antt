@@ -1,11 +1,6 @@
 -- `span_steps::push_claimed` meets its contract: what is left to push falls by the entry pushed. Assumes nothing.
-use borrow.Author.Rules.{rules}
-use mathlib.Core.Path.{◌≡◌, ap, ◌∙◌}
-use mathlib.Core.Logic.{⊎_elim}
-use Prim.Native.Nat.{ℕ, ◌-◌, ◌%◌}
-use native.Mathlib.Omega.{arith}
-use Rattle.span.specs.Span.{claimed_entries}
-use Rattle.span_steps.proofs.PushingLaws.{Pushing, starts, passes, has_room, pushes, ends}
+use Prim.Native.Nat.{◌-◌}
+use Rattle.span_steps.proofs.PushingLaws.{Pushing}
 use Rattle.span_steps.proofs.push_claimed.Given as goal
 
 abbrev pub invariant-loop-b : goal.invariant-loop-b

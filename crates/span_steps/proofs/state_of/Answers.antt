@@ -1,8 +1,5 @@
 -- `span_steps::state_of` meets its contract: the three tests in turn. Assumes nothing.
-use borrow.Author.Rules.{rules}
-use borrow.Author.Tests.{not-true, not-false}
-use mathlib.Core.Path.{◌≡◌, sym, ap, ◌∙◌}
-use mathlib.Core.Bool.{Bool}
+use mathlib.Core.Path.{sym, ap, ◌∙◌}
 use Prim.Native.Nat.{ℕ, ◌/◌, ◌%◌, ◌<◌}
 use native.Mathlib.Omega.{arith}
 use Rattle.laws.specs.Word.{is_set}

@@ -1,9 +1,6 @@
 -- `trace_text::put_text` meets its contract. Assumes nothing.
 use borrow.Author.Rules.{rules}
-use mathlib.Core.Path.{◌≡◌, refl}
-use Prim.Native.Nat.{◌≤◌, ◌-◌}
-use lib.ListN.{length, take}
-use Rattle.trace_text.specs.Wrote.{Wrote}
+use mathlib.Core.Path.{refl}
 use Rattle.trace_text.proofs.Writing.{wrote_nothing, wrote_next, wrote_all}
 use Rattle.trace_text.proofs.put_text.Goals as goal
 

@@ -1,10 +1,8 @@
 -- `trace_text::put_text` meets its contract. Assumes nothing.
-use borrow.Author.Rules.{rules}
-use mathlib.Core.Path.{◌≡◌, refl}
+use mathlib.Core.Path.{◌≡◌}
 use Prim.Native.Nat.{◌≤◌, ◌-◌}
 use lib.ListN.{length, take}
 use Rattle.trace_text.specs.Wrote.{Wrote}
-use Rattle.trace_text.proofs.Writing.{wrote_nothing, wrote_next, wrote_all}
 use Rattle.trace_text.proofs.put_text.Given as goal
 
 abbrev pub invariant-loop-i : goal.invariant-loop-i
