@@ -1,8 +1,6 @@
 -- A free by the owner and one by another heap, worked. Assumes nothing.
 use mathlib.Core.Path.{◌≡◌, refl}
-use mathlib.Core.Bool.{Bool, true, false}
-use mathlib.Core.List.{List, [], ◌∷◌}
-use Prim.Native.Nat.{ℕ}
+use mathlib.Core.List.{[], ◌∷◌}
 use lib.ListN.{get_or}
 use Rattle.tables.specs.Cells.{Tables}
 use Rattle.class_heap.proofs.Computed.{stepwise}

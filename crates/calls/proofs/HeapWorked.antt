@@ -1,12 +1,11 @@
 -- Allocate and free in the smallest shape's one class, worked. Assumes nothing.
 use mathlib.Core.Path.{◌≡◌, refl}
-use mathlib.Core.Bool.{Bool, true, false}
 use mathlib.Core.List.{List, [], ◌∷◌}
 use Prim.Native.Nat.{ℕ, zero, suc}
 use Rattle.tables.specs.Cells.{Tables}
 use Rattle.class_heap.proofs.Computed.{stepwise}
 use Rattle.tables.proofs.Tiny.{one, blank}
-use Rattle.calls.specs.Outcome.{Outcome, outcome, refused}
+use Rattle.calls.specs.Outcome.{outcome}
 use Rattle.calls.specs.Heap.{granted, draw, refill_first, alloc_small, flush_first, dealloc_local}
 
 -- the claim takes all eight whatever its word; the draw's word is 5

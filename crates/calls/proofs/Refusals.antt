@@ -1,9 +1,8 @@
 -- Every refusal of the single calls, in 01's order, on tables of the smallest shape; and 01's refusals with 7. Assumes nothing.
 use mathlib.Core.Path.{◌≡◌, refl}
-use mathlib.Core.Bool.{Bool, true, false}
 use mathlib.Core.List.{List, [], ◌∷◌}
 use Prim.Native.Nat.{ℕ, ◌+◌, ◌^◌}
-use lib.ListN.{set, replicate}
+use lib.ListN.{replicate}
 use Rattle.tables.specs.Shape.{Shape, base_shape}
 use Rattle.tables.specs.Cells.{Tables, tables}
 use Rattle.tables.specs.Fresh.{fresh}

@@ -1,13 +1,12 @@
 -- 01's worked trace as a batch, on 4 heaps and 32 spans, and the class summary after it. Assumes nothing.
 use mathlib.Core.Path.{◌≡◌, refl}
-use mathlib.Core.Bool.{Bool, true, false}
 use mathlib.Core.List.{List, [], ◌∷◌, ◌++◌}
-use Prim.Native.Nat.{ℕ, ◌+◌, ◌*◌}
+use Prim.Native.Nat.{ℕ}
 use lib.ListN.{take, drop, replicate}
 use Rattle.tables.specs.Shape.{Shape, base_shape}
-use Rattle.tables.specs.Cells.{Tables, tables, class_at, owner_at, occupied_at}
+use Rattle.tables.specs.Cells.{Tables, tables}
 use Rattle.calls.specs.Batch.{Batched, batch}
-use Rattle.calls.specs.Summary.{pending_slots, class_record}
+use Rattle.calls.specs.Summary.{class_record}
 use Rattle.calls.proofs.Computed.{computed}
 
 abbrev shape : Shape

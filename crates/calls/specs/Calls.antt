@@ -1,5 +1,5 @@
 -- The single calls, with every refusal in 01's order ("What comes back"). Assumes nothing.
-use Rattle.std.specs.Prelude.{Bool, true, false, ◌&&◌, cond, List, ℕ, ◌/◌, length, leb, ltb}
+use Rattle.std.specs.Prelude.{Bool, ◌&&◌, cond, List, ℕ, ◌/◌, length, leb, ltb}
 use Rattle.size_classes.specs.SlotSizes.{slot_size}
 use Rattle.size_classes.specs.Class.{in_range, smallest_class}
 use Rattle.size_classes.specs.Slots.{starts_slot}

@@ -1,5 +1,5 @@
 -- Allocate and free in one class of one heap, on a sound table. Assumes nothing.
-use Rattle.std.specs.Prelude.{Bool, cond, List, ℕ, ◌+◌, get_or, eqb}
+use Rattle.std.specs.Prelude.{cond, List, ℕ, ◌+◌, get_or, eqb}
 use Rattle.size_classes.specs.Slots.{slot_offset}
 use Rattle.tables.specs.declared.ClassHeap.{ClassHeap}
 use Rattle.tables.specs.Cells.{Tables, count_at, entry_at, entry_of, entry_span, entry_slot}

@@ -1,5 +1,5 @@
 -- The class summary. Assumes nothing.
-use Rattle.std.specs.Prelude.{Bool, ◌&&◌, cond, List, [], ◌∷◌, ◌++◌, ℕ, zero, suc, ◌+◌, ◌*◌, length, eqb}
+use Rattle.std.specs.Prelude.{◌&&◌, cond, List, [], ◌∷◌, ◌++◌, ℕ, zero, suc, ◌+◌, ◌*◌, length, eqb}
 use Rattle.laws.specs.Choice.{sum}
 use Rattle.laws.specs.Word.{popcount}
 use Rattle.size_classes.specs.SlotSizes.{slot_size}

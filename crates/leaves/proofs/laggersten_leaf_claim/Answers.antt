@@ -1,5 +1,4 @@
 -- `leaves::laggersten_leaf_claim` meets its contract. Assumes nothing.
-use borrow.Author.Rules.{rules}
 use mathlib.Core.Path.{sym, ap, ◌∙◌}
 use Rattle.leaves.specs.Numbers.{claim_numbers}
 use Rattle.leaves.proofs.laggersten_leaf_claim.Goals as goal

@@ -1,5 +1,4 @@
 -- `leaves::laggersten_leaf_class` meets its contract. Assumes nothing.
-use borrow.Author.Rules.{rules}
 use mathlib.Core.Path.{sym, ap, ◌∙◌}
 use Rattle.leaves.specs.Numbers.{class_number}
 use Rattle.leaves.proofs.laggersten_leaf_class.Goals as goal

@@ -1,5 +1,4 @@
 -- `leaves::laggersten_leaf_fresh` meets its contract. Assumes nothing.
-use borrow.Author.Rules.{rules}
 use mathlib.Core.Path.{ap, ◌∙◌}
 use Rattle.occupancy.specs.declared.Occupancy.{Occupancy}
 use Rattle.tables.specs.Cells.{tables}

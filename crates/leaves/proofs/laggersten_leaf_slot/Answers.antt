@@ -1,5 +1,4 @@
 -- `leaves::laggersten_leaf_slot` meets its contract. Assumes nothing.
-use borrow.Author.Rules.{rules}
 use mathlib.Core.Path.{sym, ap, ◌∙◌}
 use Rattle.leaves.specs.Numbers.{slot_number}
 use Rattle.leaves.proofs.laggersten_leaf_slot.Goals as goal

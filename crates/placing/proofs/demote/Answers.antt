@@ -1,5 +1,4 @@
 -- `placing::demote` meets its contract: a push, or nothing. Assumes nothing.
-use borrow.Author.Rules.{rules}
 use native.Mathlib.Omega.{arith}
 use Rattle.placing.proofs.PlacingMade.{demote_none, demote_some}
 use Rattle.placing.proofs.demote.Goals as goal

@@ -1,5 +1,4 @@
 -- `placing::place` meets its contract: its two tests in turn. Assumes nothing.
-use borrow.Author.Rules.{rules}
 use mathlib.Core.Path.{sym, ◌∙◌}
 use Rattle.placing.proofs.PlacingMade.{cells_here, place_empty, place_full, place_partial}
 use Rattle.placing.proofs.place.Goals as goal

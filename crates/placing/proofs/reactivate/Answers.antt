@@ -1,6 +1,4 @@
 -- `placing::reactivate` meets its contract: the reserve, or the front of the empty list. Assumes nothing.
-use borrow.Author.Rules.{rules}
-use mathlib.Core.Path.{◌≡◌}
 use mathlib.Core.List.{[]}
 use Prim.Native.Nat.{◌<◌}
 use native.Mathlib.Omega.{arith}

@@ -1,5 +1,4 @@
 -- `placing::refile` meets its contract: a remove and a place. Assumes nothing.
-use borrow.Author.Rules.{rules}
 use mathlib.Core.List.{[]}
 use Rattle.placing.proofs.PlacingMade.{removed_links, refile_made}
 use Rattle.placing.proofs.refile.Goals as goal

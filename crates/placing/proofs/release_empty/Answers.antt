@@ -1,9 +1,6 @@
 -- `placing::release_empty` meets its contract: the reserve read, stored and handed on. Assumes nothing.
-use borrow.Author.Rules.{rules}
-use mathlib.Core.Path.{◌≡◌}
 use mathlib.Core.List.{[]}
 use native.Mathlib.Omega.{arith}
-use lib.ListN.{length}
 use Rattle.tables.specs.Cells.{tables}
 use Rattle.linked_list.proofs.ReachLaws.{head_here, few_spans_lem}
 use Rattle.linked_list.proofs.LinksKept.{put_links}

@@ -1,5 +1,4 @@
 -- `sound_spans::pad_of` meets its contract: all bits, none, or those from the last slot on. Assumes nothing.
-use borrow.Author.Rules.{rules}
 use mathlib.Core.Path.{◌≡◌, ap, ◌∙◌}
 use Prim.Native.Nat.{ℕ, ◌-◌, ◌*◌, ◌^◌, min}
 use native.Mathlib.Omega.{arith}

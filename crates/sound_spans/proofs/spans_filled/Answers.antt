@@ -1,24 +1,19 @@
 -- `sound_spans::spans_filled` meets its contract: the spans passed are right, and so are the words passed of the span at hand. Assumes nothing.
-use borrow.Author.Rules.{rules}
 use borrow.Author.Count.{below_more, below_none}
 use mathlib.Core.Path.{◌≡◌, refl, sym, subst}
-use mathlib.Core.Bool.{Bool, true}
 use mathlib.Core.List.{List, []}
-use Prim.Native.Nat.{ℕ, ◌-◌, ◌<◌, ◌≤◌}
+use Prim.Native.Nat.{ℕ, ◌≤◌}
 use native.Mathlib.Omega.{arith}
 use Rattle.laws.proofs.WordLaws.{ones_most}
 use Rattle.size_classes.specs.Slots.{most_slots, slots_per_span}
 use Rattle.size_classes.proofs.SlotTheorems.{slots_most}
-use Rattle.tables.specs.Shape.{shape}
-use Rattle.tables.specs.Cells.{tables, bitmap_cell}
+use Rattle.tables.specs.Cells.{bitmap_cell}
 use Rattle.span.proofs.CellsThere.{summary_there, local_word_there, remote_word_there, field_there}
-use Rattle.sound.specs.Sound.{SpanFilled}
-use Rattle.sound_spans.specs.WordSound.{SpanRead, WordsPassed}
+use Rattle.sound_spans.specs.WordSound.{WordsPassed}
 use Rattle.sound_spans.proofs.TestLaws.{granted, refuted}
 use Rattle.sound_spans.proofs.SpanWords.{words_there, fields_there}
 use Rattle.sound_spans.proofs.SpanTurns.{passed_none, passed_more, enough, span_right, count_right, word_right}
 use Rattle.sound_spans.proofs.spans_filled.Goals as goal
-use Rattle.sound_spans.proofs.spans_filled.Invariants.{Passed, Inside}
 
 -- A span has at most 4096 slots.
 few_slots : (slot : ℕ) → slots_per_span slot ≤ 4096

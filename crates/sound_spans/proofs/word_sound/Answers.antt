@@ -1,5 +1,4 @@
 -- `sound_spans::word_sound` meets its contract: each test decides one clause of a word. Assumes nothing.
-use borrow.Author.Rules.{rules}
 use mathlib.Core.Path.{sym, ap, ◌∙◌}
 use lib.Bits.{bit_and}
 use Rattle.sound_spans.proofs.TestLaws.{agree, differ, says_eqb}
