@@ -1,5 +1,5 @@
 -- Little-endian numbers from their bytes, and the words of a seed one after the other. Assumes nothing.
-use Rattle.std.proofs.Common.{◌≡◌, ℕ, zero, suc, ◌+◌, ◌-◌, ◌*◌, ◌%◌, ◌^◌, ◌<◌, ◌≤◌, List, [], ◌∷◌, ◌++◌, length, get_or, take, drop, set, replicate, sym, refl, ap, ◌∙◌, append-nil, zero-add, arith, take_all, drop-cons}
+use Rattle.std.proofs.Common.{◌≡◌, ℕ, zero, suc, ◌+◌, ◌*◌, ◌%◌, ◌^◌, ◌<◌, ◌≤◌, List, ◌∷◌, ◌++◌, length, get_or, take, drop, set, replicate, sym, refl, ap, ◌∙◌, append-nil, zero-add, arith, take_all, drop-cons}
 use lib.ListN.{length-replicate}
 use lib.Seq.{paste, paste-zero, paste-suc, drop-length}
 use Rattle.calls.specs.Batch.{little_endian, word_step, words_from}

@@ -1,18 +1,18 @@
 -- The batch, a record at a time. Assumes nothing.
-use mathlib.Core.Path.{◌≡◌, refl, sym, ap, ◌∙◌}
+use mathlib.Core.Path.{◌≡◌, refl, ap, ◌∙◌}
 use mathlib.Core.List.{List, [], ◌∷◌}
-use Prim.Native.Nat.{ℕ, zero, suc, ◌+◌, ◌-◌, ◌*◌, ◌/◌, ◌%◌, ◌<◌, ◌≤◌}
+use Prim.Native.Nat.{ℕ, zero, suc, ◌+◌, ◌*◌, ◌/◌, ◌%◌, ◌<◌, ◌≤◌}
 use native.Mathlib.Omega.{arith}
 use lib.ListN.{length}
 use lib.Seq.{length-sets}
-use mathlib.Core.Bool.{Bool, true, false}
+use mathlib.Core.Bool.{false}
 use borrow.Author.Tests.{eq-eqb, ne_eqb}
 use lib.Dec.{leb}
 use Rattle.tables.specs.Shape.{shape}
 use Rattle.tables.specs.Cells.{Tables}
 use Rattle.calls.specs.Outcome.{Outcome}
 use Rattle.calls.specs.Run.{perform_sound}
-use Rattle.calls.specs.Batch.{record_bytes, record_call, answer_cells, answered, Batched, batched, batch_from, whole_records}
+use Rattle.calls.specs.Batch.{record_bytes, record_call, answer_cells, answered, batched, batch_from, whole_records}
 use Rattle.sound_calls.specs.Lent.{Lent}
 use Rattle.call_laws.proofs.SingleLaws.{perform_lent}
 

@@ -2,20 +2,18 @@
 use mathlib.Core.Path.{◌≡◌, refl, sym, ap, ◌∙◌}
 use mathlib.Core.Bool.{Bool, true, false, ◌&&◌, cond}
 use mathlib.Core.List.{List}
-use mathlib.Core.Logic.{◌⊎◌, inl, inr, ⊎_elim}
 use Prim.Native.Nat.{ℕ, ◌+◌, ◌*◌}
 use native.Mathlib.Omega.{arith}
 use borrow.Author.Tests.{eq-eqb, ne_eqb}
 use lib.ListN.{get_or}
 use lib.Dec.{eqb}
-use Rattle.laws.proofs.FirstLaws.{tested}
 use Rattle.calls.specs.Calls.{words_needed}
 use Rattle.tables.specs.Shape.{Shape}
 use Rattle.tables.specs.Cells.{Tables}
 use Rattle.calls.specs.declared.Answer.{Answer}
 use Rattle.calls.specs.Outcome.{Outcome, ended, refusal}
 use Rattle.calls.specs.Run.{Call, allocation, release, malformed, perform_sound}
-use Rattle.calls.specs.Batch.{little_endian, number_at, marked, kind_is, heap_at, words_from, record_call}
+use Rattle.calls.specs.Batch.{little_endian, number_at, marked, kind_is, words_from, record_call}
 use Rattle.batching.specs.Kinds.{kind_number}
 
 module _ (bytes : List ℕ) (at : ℕ) where

@@ -1,7 +1,7 @@
 -- A state whose table has the model's counts, and the frees that follow the model. Assumes nothing.
 use mathlib.Core.Path.{◌≡◌, refl, sym, ap, ap₂, subst, ◌∙◌}
 use mathlib.Core.Logic.{inl, inr}
-use mathlib.Core.Bool.{Bool, true, false, cond}
+use mathlib.Core.Bool.{cond}
 use mathlib.Core.List.{List, ◌∷◌}
 use Prim.Native.Nat.{ℕ, ◌*◌, ◌^◌, ◌<◌, ◌≤◌}
 use native.Mathlib.Decide.{ℕ_discrete}
@@ -20,7 +20,7 @@ use Rattle.calls.specs.Calls.{free_sound, free}
 use Rattle.sound.specs.Sound.{Belongs}
 use Rattle.homes.specs.Homes.{Whole}
 use Rattle.sound_calls.proofs.FreeTests.{no_heap_lem}
-use Rattle.chance.specs.Counts.{Row, free_row, Whose, whose, Counts, counts, put_row, Counted, counted, freed_count, free_count}
+use Rattle.chance.specs.Counts.{Row, free_row, Whose, whose, Counts, put_row, Counted, counted, freed_count, free_count}
 use Rattle.chance.specs.Chance.{row_in, Place, place, State, state, given_at, After, released, Names}
 use Rattle.chance.proofs.RowTests.{belongs_once}
 use Rattle.chance.proofs.RowSteps.{Frees, frees}

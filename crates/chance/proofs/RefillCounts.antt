@@ -4,11 +4,11 @@ use mathlib.Core.Path.{◌≡◌, refl, sym, ap, subst, ◌∙◌}
 use mathlib.Core.Bool.{cond}
 use mathlib.Core.List.{List}
 use mathlib.Core.Logic.{◌⊎◌, inl, inr, ⊎_elim}
-use Prim.Native.Nat.{ℕ, zero, suc, ◌+◌, ◌-◌, ◌*◌, ◌^◌, ◌<◌, ◌≤◌}
+use Prim.Native.Nat.{ℕ, zero, suc, ◌+◌, ◌*◌, ◌^◌, ◌<◌, ◌≤◌}
 use native.Mathlib.Nat.{le_refl}
 use native.Mathlib.Decide.{ℕ_discrete}
 use native.Mathlib.Omega.{arith}
-use borrow.Author.Tests.{eqb-true, eqb-false, ltb-true, ltb-false}
+use borrow.Author.Tests.{eqb-true, eqb-false, ltb-true}
 use lib.Dec.{ltb}
 use lib.ListN.{get_or}
 use Rattle.laws.proofs.CondLaws.{cond_both}
@@ -24,7 +24,7 @@ use Rattle.filled_magazines.proofs.FilledFacts.{count_within, capacity_in_span}
 use Rattle.placing.specs.Working.{Working}
 use Rattle.placing.proofs.PlacingQuiet.{reactivate_quiet}
 use Rattle.reclaiming.proofs.ReclaimingLaws.{reclaim_used}
-use Rattle.replenishing.proofs.ReplenishingLaws.{create_used, supply_out, replenish_made, replenish_count, replenish_working}
+use Rattle.replenishing.proofs.ReplenishingLaws.{create_used, supply_out, replenish_made, replenish_working}
 use Rattle.claiming.specs.Claimable.{Fronted}
 use Rattle.refilling.proofs.RefillingLaws.{fronts_here}
 use Rattle.homes.specs.Homes.{Whole}

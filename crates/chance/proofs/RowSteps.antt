@@ -29,7 +29,7 @@ use Rattle.outs.specs.Outs.{IsOut, SameOuts, ComesOut, GoesBack}
 use Rattle.outs.proofs.OutsLaws.{spans_belongs, same_outs, same_goes}
 use Rattle.outs.proofs.BlockOuts.{draw_comes, draw_belongs, push_goes, remote_goes, flush_outs}
 use Rattle.sound_steps.proofs.FlushSteps.{remote_whole, push_entry_whole, draw_entry_whole, flush_whole}
-use Rattle.chance.specs.Counts.{Row, row, stock, refill_first_count, draw_row, free_row}
+use Rattle.chance.specs.Counts.{Row, stock, refill_first_count, draw_row, free_row}
 use Rattle.chance.specs.Chance.{row_in}
 use Rattle.chance.proofs.RowTests.{belongs_once, same_spans, other_spans, same_out, comes_more, comes_other, goes_fewer, goes_other}
 use Rattle.chance.proofs.ModelLaws.{same_row}

@@ -1,14 +1,12 @@
 -- The numbers of blocks out and of spans, of each class and heap, after a step: where the same blocks are out, where one comes out, where one goes back.
 -- Assumes nothing.
-use mathlib.Core.Path.{◌≡◌, refl, sym, ap, ap₂, subst, ◌∙◌}
-use mathlib.Core.Bool.{Bool, true, false, ◌&&◌}
-use mathlib.Core.Logic.{⊎_elim}
+use mathlib.Core.Path.{◌≡◌, sym, ap, ap₂, subst, ◌∙◌}
+use mathlib.Core.Bool.{Bool, true, ◌&&◌}
 use Prim.Native.Nat.{ℕ, ◌+◌, ◌<◌, ◌≤◌}
 use native.Mathlib.Nat.{lt_of_lt_of_le}
 use native.Mathlib.Omega.{arith}
 use lib.Dec.{eqb}
 use borrow.Author.Tests.{eqb-true, eq-eqb}
-use Rattle.laws.proofs.FirstLaws.{tested}
 use Rattle.laws.proofs.SomeLaws.{and_both}
 use Rattle.laws.proofs.TestLaws.{tests_agree, test_fails, and_so}
 use Rattle.tables.specs.declared.ClassHeap.{ClassHeap}

@@ -16,7 +16,6 @@ use Rattle.occupancy.proofs.ClaimLaws.{claim_took}
 use Rattle.tables.specs.declared.ClassHeap.{ClassHeap}
 use Rattle.tables.specs.Shape.{Shape, class_heap}
 use Rattle.tables.specs.Cells.{Tables, head_at, partial_list, full_list, count_at, entry_of}
-use Rattle.magazine.specs.Room.{Room}
 use Rattle.magazine.specs.Magazine.{push_entry, push_entries}
 use Rattle.linked_list.specs.Lists.{push, remove}
 use Rattle.span.specs.Room.{SpanCells, Foldable}
@@ -24,7 +23,7 @@ use Rattle.span.specs.Span.{loaded, stored, is_full, folded, claimed_entries}
 use Rattle.class_heap.specs.Steps.{if_full, taken, claim_of, claim_from, claim_front}
 use Rattle.sound.specs.Sound.{home_of, Belongs}
 use Rattle.sound.specs.Filled.{Filled}
-use Rattle.filled_magazines.proofs.FilledFacts.{filled_room, belongs_home}
+use Rattle.filled_magazines.proofs.FilledFacts.{belongs_home}
 use Rattle.filled_magazines.specs.Pushable.{OutEntry, Pushable}
 use Rattle.filled_magazines.proofs.MagazineSteps.{block_out_entry}
 use Rattle.filled_magazines.proofs.PushesSteps.{push_entries_filled}

@@ -1,22 +1,16 @@
 -- 01's worked numbers, P1 to P12, in one table about the definitions; the magazine draw; and 01's trace. Assumes nothing.
 use mathlib.Core.Path.{◌≡◌, refl}
-use mathlib.Core.Bool.{Bool, true, false}
-use mathlib.Core.List.{List, [], ◌∷◌}
-use Prim.Native.Nat.{ℕ, ◌+◌, ◌-◌, ◌*◌, ◌^◌}
+use Prim.Native.Nat.{ℕ, ◌-◌, ◌^◌}
 use lib.ListN.{take, drop, get_or, replicate}
 use lib.Count.{ones_in}
-use Rattle.laws.specs.Choice.{sum, some}
 use Rattle.laws.specs.First.{first}
-use Rattle.laws.specs.Word.{bits_from}
 use Rattle.size_classes.specs.declared.ClassFound.{ClassFound}
 use Rattle.size_classes.specs.declared.ClassFound.TheVariants.{Class, TooLarge}
-use Rattle.size_classes.specs.declared.SlotFound.{SlotFound}
 use Rattle.size_classes.specs.declared.SlotFound.TheVariants.{Slot, NoSlot}
 use Rattle.size_classes.specs.SlotSizes.{rising, groups, slot_sizes, slot_size, largest_slot}
 use Rattle.size_classes.specs.Class.{raised, fits, smallest_class, in_range, class_of}
 use Rattle.size_classes.specs.Slots.{most_slots, fewest_slots, slots_per_span, starts_slot, slot_at}
-use Rattle.occupancy.specs.declared.Claimed.{Claimed}
-use Rattle.occupancy.specs.declared.Claimed.TheVariants.{Nothing, Taken}
+use Rattle.occupancy.specs.declared.Claimed.TheVariants.{Taken}
 use Rattle.occupancy.specs.Occupied.{fresh_words, fresh_of, first_room, first_free, window_of, taking, claim_in, claim}
 
 -- the slot of a class found; 0 for a refusal

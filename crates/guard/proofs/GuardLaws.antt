@@ -1,8 +1,7 @@
 -- The number of a table, by its two tests; and what 0 means. Assumes nothing.
-use mathlib.Core.Path.{◌≡◌, refl, sym, ◌∙◌}
-use mathlib.Core.Bool.{Bool, true, false, cond}
+use mathlib.Core.Path.{◌≡◌, ◌∙◌}
+use mathlib.Core.Bool.{true, false}
 use mathlib.Core.Logic.{⊎_elim}
-use Prim.Native.Nat.{ℕ}
 use native.Mathlib.Omega.{arith}
 use Rattle.laws.proofs.FirstLaws.{tested}
 use Rattle.tables.specs.Shape.{Shape}

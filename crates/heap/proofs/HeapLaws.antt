@@ -1,33 +1,31 @@
 -- What an allocation and a free by the owner need of the steps before them. Assumes nothing.
-use mathlib.Core.Path.{◌≡◌, refl, sym, ap, ◌∙◌}
-use mathlib.Core.Bool.{Bool, true, false, cond}
+use mathlib.Core.Path.{◌≡◌, ap, ◌∙◌}
+use mathlib.Core.Bool.{true, false}
 use mathlib.Core.List.{List}
-use Prim.Native.Nat.{ℕ, zero, suc, ◌+◌, ◌-◌, ◌*◌, ◌%◌, ◌^◌, ◌<◌, ◌≤◌}
+use Prim.Native.Nat.{ℕ, suc, ◌+◌, ◌*◌, ◌%◌, ◌^◌, ◌<◌, ◌≤◌}
 use native.Mathlib.Nat.{mod-lt, mul-le-mul_left, mul-le-mul_right}
 use native.Mathlib.Omega.{arith}
 use borrow.Author.Tests.{eq-eqb, ne_eqb, eqb-true, eqb-false}
 use lib.ListN.{get_or}
-use lib.Dec.{eqb}
 use Rattle.laws.proofs.CondLaws.{cond_both}
 use Rattle.magazine_layout.specs.Layout.{most_capacity}
 use Rattle.tables.specs.declared.ClassHeap.{ClassHeap}
 use Rattle.size_classes.specs.SlotSizes.{Admissible, largest_slot}
 use Rattle.size_classes.proofs.SlotSizeLaws.{size_largest}
 use Rattle.tables.specs.Shape.{Shape, classes, class_heap}
-use Rattle.size_classes.specs.Slots.{most_slots, slot_offset}
+use Rattle.size_classes.specs.Slots.{most_slots}
 use Rattle.tables.specs.Cells.{Tables, count_at, entry_at, entry_of, entry_span, entry_slot}
 use Rattle.magazine.specs.Room.{Room}
 use Rattle.magazine.specs.Magazine.{needs_refill, is_full, push_entry, drawn_at, draw_entry}
 use Rattle.class_heap.specs.Steps.{Refilled, refilled, refill, flush}
 use Rattle.filled_magazines.proofs.FilledFacts.{slots_within, capacity_within, low_under, capacity_some}
-use Rattle.calls.specs.Outcome.{Outcome, ended, outcome, refused}
+use Rattle.calls.specs.Outcome.{Outcome, outcome, refused}
 use Rattle.calls.specs.Heap.{granted, refill_first, draw, alloc_small, flush_first, dealloc_local}
 use Rattle.placing.specs.Working.{Working}
 use Rattle.placing.proofs.PlacingKept.{working_room}
 use Rattle.refilling.specs.Fronts.{Fronts}
 use Rattle.refilling.proofs.RefillingLaws.{refill_working, refill_words}
 use Rattle.flushing.proofs.FlushingLaws.{flush_working, flush_makes_room}
-use Rattle.heap.specs.Freeable.{Freeable}
 
 -- ---- the refill before a draw
 

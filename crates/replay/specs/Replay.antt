@@ -1,5 +1,5 @@
 -- A list of calls run through the definitions from a fresh table, and what is seen of it. Assumes nothing.
-use Rattle.std.specs.Prelude.{Bool, cond, List, [], ◌∷◌, ℕ, zero, suc, ◌+◌, ◌*◌, length, replicate, eqb}
+use Rattle.std.specs.Prelude.{cond, List, [], ◌∷◌, ℕ, suc, ◌*◌, length, replicate, eqb}
 use Rattle.size_classes.specs.SlotSizes.{slot_sizes}
 use Rattle.magazine_layout.specs.Layout.{entries_per_heap}
 use Rattle.tables.specs.Shape.{base_shape, bitmap_cells, record_cells, head_cells}

@@ -2,18 +2,16 @@
 use mathlib.Core.Path.{◌≡◌, refl, sym, ap, ◌∙◌}
 use mathlib.Core.Bool.{Bool, true, false, cond}
 use mathlib.Core.List.{List}
-use mathlib.Core.Logic.{⊎_elim}
 use Prim.Native.Nat.{ℕ, ◌<◌, ◌≤◌}
 use borrow.Author.Tests.{lt-ltb, le-ltb, le-leb, lt-leb}
 use lib.ListN.{length}
-use Rattle.laws.proofs.FirstLaws.{tested}
 use Rattle.size_classes.specs.declared.ClassFound.{ClassFound}
 use Rattle.size_classes.specs.declared.ClassFound.TheVariants.{Class, TooLarge}
 use Rattle.size_classes.specs.Class.{in_range, smallest_class, class_of}
-use Rattle.size_classes.proofs.ClassTheorems.{Smallest, is_answer}
+use Rattle.size_classes.proofs.ClassTheorems.{is_answer}
 use Rattle.size_classes.specs.SlotSizes.{Admissible}
 use Rattle.tables.specs.declared.ClassHeap.{ClassHeap}
-use Rattle.tables.specs.Shape.{Shape, classes, class_heap}
+use Rattle.tables.specs.Shape.{Shape, class_heap}
 use Rattle.tables.specs.Cells.{Tables}
 use Rattle.calls.specs.declared.Answer.{Answer}
 use Rattle.calls.specs.Outcome.{Outcome, ended, refusal}

@@ -1,9 +1,8 @@
 -- A free on a sound table, by its tests. Assumes nothing.
 use mathlib.Core.Path.{◌≡◌, refl, sym, ap, ◌∙◌}
-use mathlib.Core.Bool.{Bool, true, false, ◌&&◌, cond, true≢false}
+use mathlib.Core.Bool.{Bool, true, false, cond, true≢false}
 use Prim.Native.Nat.{ℕ, ◌/◌, ◌<◌, ◌≤◌}
 use borrow.Author.Tests.{lt-ltb, le-ltb}
-use lib.Dec.{ltb}
 use Rattle.size_classes.specs.declared.SlotFound.{SlotFound}
 use Rattle.size_classes.specs.declared.SlotFound.TheVariants.{Slot, NoSlot}
 use Rattle.size_classes.specs.SlotSizes.{slot_size}
@@ -18,7 +17,7 @@ use Rattle.sound.specs.Sound.{home_of, Belongs}
 use Rattle.filled_magazines.proofs.FilledFacts.{span_belongs}
 use Rattle.heap.specs.Freeable.{Freeable}
 use Rattle.calls.specs.declared.Answer.{Answer}
-use Rattle.calls.specs.Outcome.{Outcome, ended, outcome, refusal, refused}
+use Rattle.calls.specs.Outcome.{Outcome, ended, outcome, refusal}
 use Rattle.calls.specs.Primary.{dealloc_small}
 use Rattle.calls.specs.Calls.{names_slot, freed, free_sound}
 use Rattle.sound_calls.specs.Lent.{Block, free_block}

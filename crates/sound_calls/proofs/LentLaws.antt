@@ -1,5 +1,5 @@
 -- A lent table works for each class of each of its heaps. Assumes nothing.
-use mathlib.Core.Path.{◌≡◌, refl}
+use mathlib.Core.Path.{◌≡◌}
 use mathlib.Core.List.{List}
 use Prim.Native.Nat.{ℕ, ◌<◌, ◌≤◌}
 use native.Mathlib.Omega.{arith}
@@ -17,7 +17,6 @@ use Rattle.size_classes.specs.SlotSizes.{least_alignment}
 use Rattle.size_classes.specs.Slots.{slots_per_span, slot_at}
 use Rattle.size_classes.proofs.SlotSizeLaws.{size_least}
 use Rattle.size_classes.proofs.SlotTheorems.{accepts_exactly}
-use Rattle.sound.specs.Filled.{Filled}
 use Rattle.filled_magazines.proofs.FilledFacts.{capacity_within, filled_shape}
 use Rattle.placing.specs.Working.{Working}
 use Rattle.refilling.specs.Fronts.{Fronts}

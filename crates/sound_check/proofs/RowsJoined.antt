@@ -1,6 +1,6 @@
 -- All rows joined: the lists hold as many spans as are used exactly where each used span stands once in the lists of its class and heap. Assumes nothing.
 use mathlib.Core.Path.{◌≡◌, sym, ap, ap₂, subst, ◌∙◌}
-use mathlib.Core.Logic.{◌⊎◌, ⊎_elim}
+use mathlib.Core.Logic.{⊎_elim}
 use Prim.Native.Nat.{ℕ, zero, suc, ◌+◌, ◌*◌, ◌/◌, ◌%◌, ◌<◌, ◌≤◌}
 use native.Mathlib.Nat.{le_antisymm, eq-or-lt_of_le, le_of_suc-le-suc, div-add-mod'}
 use native.Mathlib.Numerals.{add-one}

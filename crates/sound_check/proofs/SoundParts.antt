@@ -1,7 +1,7 @@
 -- A table is sound exactly where its used spans and its rows are right; and an answer that says so is the decision. Assumes nothing.
 use mathlib.Core.Path.{◌≡◌, refl, ap₂, subst, ◌∙◌}
 use mathlib.Core.Bool.{Bool, true, false}
-use Prim.Native.Nat.{ℕ, zero, suc, ◌+◌, ◌-◌, ◌*◌, ◌/◌, ◌%◌, ◌<◌, ◌≤◌}
+use Prim.Native.Nat.{ℕ, zero, suc, ◌+◌, ◌*◌, ◌/◌, ◌%◌, ◌<◌, ◌≤◌}
 use native.Mathlib.Nat.{mod-lt}
 use native.Mathlib.Omega.{arith}
 use lib.Arith.{digits_div, digits_mod}

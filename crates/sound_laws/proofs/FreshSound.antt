@@ -1,17 +1,17 @@
 -- A fresh table is sound. Assumes nothing.
 use mathlib.Core.Path.{◌≡◌, refl}
-use mathlib.Core.List.{List, []}
-use Prim.Native.Nat.{ℕ, zero, suc, ◌<◌, ◌≤◌}
+use mathlib.Core.List.{[]}
+use Prim.Native.Nat.{ℕ, ◌<◌}
 use native.Mathlib.Decide.{dec_lt}
 use native.Mathlib.Nat.{not-suc-le-zero}
 use native.Mathlib.Omega.{arith}
 use lib.ListN.{length, get_or, replicate, get_or-replicate, length-replicate, get_or-eq_default}
-use Rattle.laws.specs.Links.{All, Chain, walk}
+use Rattle.laws.specs.Links.{walk}
 use Rattle.tables.specs.declared.ClassHeap.{ClassHeap}
 use Rattle.tables.specs.Shape.{Shape}
-use Rattle.tables.specs.Cells.{Tables, fresh_tables, previous_at, next_at, head_at, count_at}
+use Rattle.tables.specs.Cells.{Tables, fresh_tables, head_at, count_at}
 use Rattle.linked_list.specs.Lists.{list_of}
-use Rattle.sound.specs.Sound.{Belongs, ListSound, MagazineSound, ClassSound, Sound, Partial, Full, Empty}
+use Rattle.sound.specs.Sound.{ListSound, ClassSound, Sound, Partial, Full, Empty}
 
 -- Every cell of a row of zeros is 0, and so is what is read past it.
 zero_cell : (n i : ℕ) → ◌≡◌ {A = ℕ} (get_or (replicate n 0) i 0) 0

@@ -1,8 +1,8 @@
 -- A sound table is filled: every link of a used span leads to a used span, as its list does. Assumes nothing.
 use mathlib.Core.Path.{◌≡◌}
-use mathlib.Core.Bool.{Bool, true}
+use mathlib.Core.Bool.{true}
 use mathlib.Core.Logic.{inl}
-use Prim.Native.Nat.{ℕ, ◌*◌, ◌<◌, ◌≤◌}
+use Prim.Native.Nat.{ℕ, ◌<◌}
 use native.Mathlib.Nat.{mul-le-mul_right}
 use borrow.Author.Tests.{lt-ltb}
 use Rattle.size_classes.specs.SlotSizes.{Admissible}

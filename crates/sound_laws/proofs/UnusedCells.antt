@@ -1,15 +1,13 @@
 -- "Unused spans and entries at or above a count may hold anything.": soundness looks at no such cell. Assumes nothing.
 use mathlib.Core.Path.{◌≡◌, refl, sym, ap, ap₂, subst, ◌∙◌}
-use mathlib.Core.Bool.{Bool, true, false, cond}
-use mathlib.Core.List.{List, [], ◌∷◌}
-use Prim.Native.Nat.{ℕ, zero, suc, ◌+◌, ◌-◌, ◌/◌, ◌%◌, ◌<◌, ◌≤◌}
+use mathlib.Core.Bool.{Bool, cond}
+use mathlib.Core.List.{List, ◌∷◌}
+use Prim.Native.Nat.{ℕ, zero, suc, ◌-◌, ◌/◌, ◌%◌, ◌<◌, ◌≤◌}
 use native.Mathlib.Decide.{ℕ_discrete}
 use native.Mathlib.Omega.{arith}
-use lib.Dec.{eqb}
 use lib.ListN.{get_or}
 use borrow.Author.Tests.{eq-eqb, ne_eqb}
-use Rattle.laws.specs.Choice.{sum}
-use Rattle.laws.specs.Links.{All, Chain, times, walk}
+use Rattle.laws.specs.Links.{All, walk}
 use Rattle.laws.specs.Members.{Mem}
 use Rattle.laws.specs.Word.{is_set}
 use Rattle.laws.proofs.ChainLaws.{chain_as}
@@ -18,12 +16,12 @@ use Rattle.laws.proofs.SumLaws.{sum_same}
 use Rattle.size_classes.specs.Slots.{most_slots}
 use Rattle.tables.specs.declared.ClassHeap.{ClassHeap}
 use Rattle.tables.specs.Shape.{Shape, classes, class_heap, bitmap_cells}
-use Rattle.tables.specs.Cells.{Tables, tables, bitmap_word, local_word, remote_word, span_field, next_field, class_at, owner_at, occupied_at, previous_at, next_at, head_cell, head_at, partial_list, full_list, empty_list, reserve, counter, count_at, entry_at, entry_span, entry_slot}
+use Rattle.tables.specs.Cells.{Tables, bitmap_word, local_word, remote_word, span_field, next_field, class_at, owner_at, occupied_at, next_at, head_cell, head_at, partial_list, full_list, empty_list, reserve, counter, count_at, entry_at, entry_span, entry_slot}
 use Rattle.tables.proofs.CellLaws.{local_in, remote_in, summaries_in}
 use Rattle.linked_list.specs.Lists.{list_of}
 use Rattle.span.specs.State.{is_occupied, is_pending}
 use Rattle.filled_magazines.proofs.FilledFacts.{slots_within}
-use Rattle.sound.specs.Sound.{home_of, places_in, Belongs, SpanFilled, SpanSound, EntrySound, MagazineSound, ListSound, Partial, Full, Empty, ClassSound, Sound}
+use Rattle.sound.specs.Sound.{home_of, places_in, Belongs, SpanFilled, EntrySound, MagazineSound, ListSound, Partial, Full, Empty, ClassSound, Sound}
 
 -- u has the heads and the number of spans of t, the cells of its used spans, and its entries below each count
 pub record SameUsed (g : Shape) (t u : Tables) : Type 0 where

@@ -1,5 +1,5 @@
 -- `batch_records::four_at` meets its contract. Assumes nothing.
-use Rattle.std.proofs.Common.{◌≡◌, arith, rules}
+use Rattle.std.proofs.Common.{arith}
 use Rattle.batch_records.proofs.RecordLaws.{four_bytes}
 use Rattle.batch_records.proofs.four_at.Goals as goal
 

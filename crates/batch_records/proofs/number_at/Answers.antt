@@ -1,5 +1,4 @@
 -- `batch_records::number_at` meets its contract. Assumes nothing.
-use Rattle.std.proofs.Common.{◌≡◌, rules}
 use Rattle.batch_records.proofs.RecordLaws.{eight_bytes}
 use Rattle.batch_records.proofs.number_at.Goals as goal
 

@@ -1,8 +1,7 @@
 -- `batch_records::words_from` meets its contract. The loop's invariant: the words before i are written, and the next one is at hand. Assumes nothing.
-use Rattle.std.proofs.Common.{◌≡◌, ℕ, ◌-◌, arith, rules}
 use Rattle.calls.specs.Calls.{words_needed}
 use Rattle.calls.specs.Batch.{word_step}
-use Rattle.batch_records.proofs.RecordLaws.{Writing, writing_none, writing_more, writing_all}
+use Rattle.batch_records.proofs.RecordLaws.{writing_none, writing_more, writing_all}
 use Rattle.batch_records.proofs.words_from.Goals as goal
 
 pub loop-i-init : goal.loop-i-init

@@ -1,6 +1,5 @@
 -- `batching::answer_record` meets its contract: the record's outcome, taken apart. Assumes nothing.
-use borrow.Author.Rules.{rules}
-use mathlib.Core.Path.{◌≡◌, ap, ◌∙◌}
+use mathlib.Core.Path.{ap, ◌∙◌}
 use native.Mathlib.Omega.{arith}
 use Rattle.calls.specs.Outcome.{Outcome}
 use Rattle.calls.specs.Batch.{record_bytes, answered}

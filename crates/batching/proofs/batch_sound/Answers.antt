@@ -1,11 +1,8 @@
 -- `batching::batch_sound` meets its contract. The loop's invariant: the records before i are answered. Assumes nothing.
-use borrow.Author.Rules.{rules}
-use mathlib.Core.Path.{◌≡◌, ◌∙◌}
-use Prim.Native.Nat.{ℕ, ◌-◌}
+use mathlib.Core.Path.{◌∙◌}
 use native.Mathlib.Omega.{arith}
 use Rattle.tables.specs.Cells.{tables}
-use Rattle.calls.specs.Batch.{record_bytes, answer_cells}
-use Rattle.batching.proofs.BatchLoop.{Answering, answering_none, answering_more, answering_all, record_there, answer_there, counted}
+use Rattle.batching.proofs.BatchLoop.{answering_none, answering_more, answering_all, record_there, answer_there, counted}
 use Rattle.batching.proofs.batch_sound.Goals as goal
 
 pub loop-i-init : goal.loop-i-init

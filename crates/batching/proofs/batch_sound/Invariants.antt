@@ -1,11 +1,7 @@
 -- `batching::batch_sound` meets its contract. The loop's invariant: the records before i are answered. Assumes nothing.
-use borrow.Author.Rules.{rules}
-use mathlib.Core.Path.{◌≡◌, ◌∙◌}
-use Prim.Native.Nat.{ℕ, ◌-◌}
-use native.Mathlib.Omega.{arith}
+use Prim.Native.Nat.{◌-◌}
 use Rattle.tables.specs.Cells.{tables}
-use Rattle.calls.specs.Batch.{record_bytes, answer_cells}
-use Rattle.batching.proofs.BatchLoop.{Answering, answering_none, answering_more, answering_all, record_there, answer_there, counted}
+use Rattle.batching.proofs.BatchLoop.{Answering}
 use Rattle.batching.proofs.batch_sound.Given as goal
 
 abbrev pub invariant-loop-i : goal.invariant-loop-i

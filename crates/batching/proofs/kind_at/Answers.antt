@@ -1,7 +1,5 @@
 -- `batching::kind_at` meets its contract, test by test. Assumes nothing.
-use borrow.Author.Rules.{rules}
-use borrow.Author.Tests.{not-true, not-false}
-use mathlib.Core.Path.{◌≡◌, sym, ◌∙◌}
+use mathlib.Core.Path.{sym, ◌∙◌}
 use native.Mathlib.Omega.{arith}
 use Rattle.calls.specs.Batch.{record_bytes}
 use Rattle.batching.proofs.KindLaws.{no_kind, one_kind, other_kind, two_kind, two_not}

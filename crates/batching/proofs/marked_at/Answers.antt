@@ -1,6 +1,4 @@
 -- `batching::marked_at` meets its contract, byte by byte. Assumes nothing.
-use borrow.Author.Rules.{rules}
-use mathlib.Core.Path.{◌≡◌}
 use native.Mathlib.Omega.{arith}
 use Rattle.calls.specs.Batch.{record_bytes}
 use Rattle.batching.proofs.KindLaws.{other_mark, first_mark}

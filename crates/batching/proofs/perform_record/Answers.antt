@@ -1,12 +1,7 @@
 -- `batching::perform_record` meets its contract, by the record's kind. Assumes nothing.
-use borrow.Author.Rules.{rules}
-use mathlib.Core.Path.{◌≡◌, ap, ◌∙◌}
 use native.Mathlib.Omega.{arith}
 use Rattle.tables.specs.Shape.{shape}
 use Rattle.tables.specs.Cells.{tables}
-use Rattle.calls.specs.Outcome.{ended}
-use Rattle.calls.specs.declared.Answer.{Answer}
-use Rattle.calls.specs.Run.{Call, perform_sound}
 use Rattle.calls.specs.Batch.{record_bytes}
 use Rattle.batching.proofs.KindLaws.{malformed_record, release_record, allocation_record, performed, refused_record}
 use Rattle.batching.proofs.perform_record.Goals as goal

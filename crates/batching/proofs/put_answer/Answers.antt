@@ -1,7 +1,5 @@
 -- `batching::put_answer` meets its contract. Assumes nothing.
 use borrow.Author.Rules.{rules}
-use mathlib.Core.Path.{◌≡◌}
-use native.Mathlib.Omega.{arith}
 use Rattle.calls.specs.Batch.{answer_cells}
 use Rattle.batching.proofs.put_answer.Goals as goal
 

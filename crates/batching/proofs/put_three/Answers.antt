@@ -1,6 +1,4 @@
 -- `batching::put_three` meets its contract: three stores. Assumes nothing.
-use borrow.Author.Rules.{rules}
-use mathlib.Core.Path.{◌≡◌}
 use native.Mathlib.Omega.{arith}
 use lib.ListN.{set}
 use Prim.Native.Nat.{◌+◌}

@@ -1,6 +1,4 @@
 -- `batching::whole_records` meets its contract. Assumes nothing.
-use borrow.Author.Rules.{rules}
-use mathlib.Core.Path.{◌≡◌}
 use Rattle.calls.specs.Batch.{record_bytes, answer_cells}
 use Rattle.batching.proofs.BatchLoop.{not_whole_lem, whole_if}
 use Rattle.batching.proofs.whole_records.Goals as goal

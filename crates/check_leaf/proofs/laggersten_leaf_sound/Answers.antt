@@ -1,5 +1,4 @@
 -- `check_leaf::laggersten_leaf_sound` meets its contract: the number by 01's list and limit. Assumes nothing.
-use borrow.Author.Rules.{rules}
 use mathlib.Core.Path.{ap, ◌∙◌}
 use mathlib.Core.List.{List}
 use Prim.Native.Nat.{ℕ}

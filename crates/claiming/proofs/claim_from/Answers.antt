@@ -1,7 +1,4 @@
 -- `claiming::claim_from` meets its contract: a claim, and its answer taken apart. Assumes nothing.
-use borrow.Author.Rules.{rules}
-use mathlib.Core.Path.{◌≡◌}
-use mathlib.Core.List.{[]}
 use native.Mathlib.Omega.{arith}
 use Rattle.placing.proofs.PlacingKept.{working_room}
 use Rattle.reclaiming.proofs.ReclaimingLaws.{working_cells}

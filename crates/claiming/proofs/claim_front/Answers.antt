@@ -1,6 +1,4 @@
 -- `claiming::claim_front` meets its contract: the front folded, and one claim of it. Assumes nothing.
-use borrow.Author.Rules.{rules}
-use mathlib.Core.Path.{◌≡◌}
 use native.Mathlib.Omega.{arith}
 use Rattle.linked_list.proofs.ReachLaws.{head_here}
 use Rattle.placing.proofs.PlacingKept.{working_links}

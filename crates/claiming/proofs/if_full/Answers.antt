@@ -1,5 +1,4 @@
 -- `claiming::if_full` meets its contract: a remove and a push, or nothing. Assumes nothing.
-use borrow.Author.Rules.{rules}
 use mathlib.Core.Path.{sym, ◌∙◌}
 use mathlib.Core.List.{[]}
 use native.Mathlib.Omega.{arith}

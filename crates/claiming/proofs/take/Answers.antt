@@ -1,8 +1,5 @@
 -- `claiming::take` meets its contract: the two answers of a claim. Assumes nothing.
-use borrow.Author.Rules.{rules}
-use mathlib.Core.Path.{◌≡◌, refl}
-use mathlib.Core.List.{[]}
-use native.Mathlib.Omega.{arith}
+use mathlib.Core.Path.{refl}
 use Rattle.placing.proofs.PlacingKept.{working_as, working_links, working_room}
 use Rattle.claiming.proofs.ClaimingLaws.{claimable_is, entries_few, taken_fits, pushed_working, taken_none, taken_some}
 use Rattle.claiming.proofs.take.Goals as goal

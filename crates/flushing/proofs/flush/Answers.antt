@@ -1,9 +1,8 @@
 -- `flushing::flush` meets its contract: what is left to flush falls by the entry given back. Assumes nothing.
-use borrow.Author.Rules.{rules}
-use mathlib.Core.Path.{◌≡◌, sym, ◌∙◌}
+use mathlib.Core.Path.{sym, ◌∙◌}
 use native.Mathlib.Omega.{arith}
 use Rattle.placing.proofs.PlacingKept.{working_room}
-use Rattle.flushing.proofs.FlushingLaws.{flush_low, flush_out, Flushing, flush_start, flush_again}
+use Rattle.flushing.proofs.FlushingLaws.{flush_low, flush_out, flush_start, flush_again}
 use Rattle.flushing.proofs.flush.Goals as goal
 
 pub loop-left-init : goal.loop-left-init

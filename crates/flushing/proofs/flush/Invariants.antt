@@ -1,9 +1,5 @@
 -- `flushing::flush` meets its contract: what is left to flush falls by the entry given back. Assumes nothing.
-use borrow.Author.Rules.{rules}
-use mathlib.Core.Path.{◌≡◌, sym, ◌∙◌}
-use native.Mathlib.Omega.{arith}
-use Rattle.placing.proofs.PlacingKept.{working_room}
-use Rattle.flushing.proofs.FlushingLaws.{flush_low, flush_out, Flushing, flush_start, flush_again}
+use Rattle.flushing.proofs.FlushingLaws.{Flushing}
 use Rattle.flushing.proofs.flush.Given as goal
 
 abbrev pub invariant-loop-left : goal.invariant-loop-left

@@ -1,6 +1,4 @@
 -- `flushing::flush_one` meets its contract: the top entry popped, and its slot given back. Assumes nothing.
-use borrow.Author.Rules.{rules}
-use mathlib.Core.Path.{◌≡◌}
 use Rattle.placing.proofs.PlacingKept.{working_room}
 use Rattle.flushing.proofs.FlushingLaws.{popped_returnable, flush_one_made}
 use Rattle.flushing.proofs.flush_one.Goals as goal

@@ -1,6 +1,5 @@
 -- `flushing::give_back` meets its contract: a slot released, and its two tests. Assumes nothing.
-use borrow.Author.Rules.{rules}
-use mathlib.Core.Path.{◌≡◌, refl, sym, ◌∙◌}
+use mathlib.Core.Path.{refl, sym, ◌∙◌}
 use native.Mathlib.Omega.{arith}
 use Rattle.placing.proofs.PlacingKept.{working_as, working_links}
 use Rattle.placing.proofs.PlacingMade.{cells_here}

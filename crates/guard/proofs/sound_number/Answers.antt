@@ -1,6 +1,4 @@
 -- `guard::sound_number` meets its contract, by its two tests. Assumes nothing.
-use borrow.Author.Rules.{rules}
-use borrow.Author.Tests.{not-true, not-false}
 use mathlib.Core.Path.{sym, ◌∙◌}
 use Rattle.tables.specs.Shape.{shape}
 use Rattle.tables.specs.Cells.{tables}

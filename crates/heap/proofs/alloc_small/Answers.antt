@@ -1,6 +1,4 @@
 -- `heap::alloc_small` meets its contract: a refill where the count is low, then a draw. Assumes nothing.
-use borrow.Author.Rules.{rules}
-use mathlib.Core.Path.{◌≡◌}
 use native.Mathlib.Omega.{arith}
 use Rattle.heap.proofs.HeapLaws.{first_used, first_room_lem, alloc_made, working_slot, working_capacity}
 use Rattle.heap.proofs.alloc_small.Goals as goal

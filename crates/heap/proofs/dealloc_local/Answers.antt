@@ -1,7 +1,4 @@
 -- `heap::dealloc_local` meets its contract: a flush where the magazine is full, then a push. Assumes nothing.
-use borrow.Author.Rules.{rules}
-use mathlib.Core.Path.{◌≡◌}
-use Rattle.placing.proofs.PlacingKept.{working_room}
 use Rattle.heap.proofs.HeapLaws.{flushed_here, flushed_room_here, block_small, dealloc_made}
 use Rattle.heap.proofs.dealloc_local.Goals as goal
 

@@ -1,6 +1,5 @@
 -- `heap::draw` meets its contract: 6 from an empty magazine, else the entry drawn. Assumes nothing.
-use borrow.Author.Rules.{rules}
-use mathlib.Core.Path.{◌≡◌, refl, sym, ◌∙◌}
+use mathlib.Core.Path.{refl, sym, ◌∙◌}
 use native.Mathlib.Omega.{arith}
 use Rattle.heap.proofs.HeapLaws.{offset_small, draw_empty, draw_some}
 use Rattle.heap.proofs.draw.Goals as goal

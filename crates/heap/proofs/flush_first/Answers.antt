@@ -1,6 +1,5 @@
 -- `heap::flush_first` meets its contract: the flush, by its test. Assumes nothing.
-use borrow.Author.Rules.{rules}
-use mathlib.Core.Path.{◌≡◌, sym, ◌∙◌}
+use mathlib.Core.Path.{sym, ◌∙◌}
 use mathlib.Core.List.{[]}
 use Rattle.placing.proofs.PlacingKept.{working_room}
 use Rattle.heap.proofs.HeapLaws.{flush_made, flush_not}

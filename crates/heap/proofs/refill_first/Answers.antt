@@ -1,6 +1,5 @@
 -- `heap::refill_first` meets its contract: the refill, by its test. Assumes nothing.
-use borrow.Author.Rules.{rules}
-use mathlib.Core.Path.{◌≡◌, sym, ◌∙◌}
+use mathlib.Core.Path.{sym, ◌∙◌}
 use mathlib.Core.List.{[]}
 use Rattle.placing.proofs.PlacingKept.{working_room}
 use Rattle.heap.proofs.HeapLaws.{first_made, first_not}

@@ -1,17 +1,13 @@
 -- `laggersten::allocate` meets its contract: by the table's number, a refusal or the call on a sound table. Assumes nothing.
-use borrow.Author.Rules.{rules}
-use mathlib.Core.Path.{◌≡◌, ap, subst, ◌∙◌}
+use mathlib.Core.Path.{ap, ◌∙◌}
 use mathlib.Core.List.{List}
 use Prim.Native.Nat.{ℕ}
 use native.Mathlib.Omega.{arith}
-use Rattle.size_classes.specs.SlotSizes.{slot_sizes}
 use Rattle.size_classes.proofs.SlotSizeLaws.{slot_sizes_admissible}
-use Rattle.class_lookup.specs.Lookup.{ClassTables}
 use Rattle.class_lookup.proofs.LookupLaws.{class_tables}
 use Rattle.tables.specs.Shape.{shape, most_spans}
 use Rattle.tables.specs.Cells.{tables}
 use Rattle.calls.specs.Calls.{allocate_sound}
-use Rattle.sound_calls.specs.Lent.{Lent}
 use Rattle.laggersten.proofs.PublicLaws.{by_sizes, sound_lent, lent_by, allocate_refused, allocate_passed}
 use Rattle.laggersten.proofs.allocate.Goals as goal
 

@@ -1,14 +1,12 @@
 -- `laggersten::fresh` meets its contract: the maker over 01's list and limit. Assumes nothing.
-use borrow.Author.Rules.{rules}
-use mathlib.Core.Path.{◌≡◌, ap, ◌∙◌}
+use mathlib.Core.Path.{ap, ◌∙◌}
 use mathlib.Core.List.{List}
 use Prim.Native.Nat.{ℕ}
 use native.Mathlib.Omega.{arith}
-use Rattle.size_classes.specs.SlotSizes.{Admissible}
 use Rattle.size_classes.proofs.SlotSizeLaws.{slot_sizes_admissible}
 use Rattle.tables.specs.Shape.{shape, most_spans}
 use Rattle.tables.specs.Cells.{tables}
-use Rattle.tables.specs.Fresh.{Numbered, fresh}
+use Rattle.tables.specs.Fresh.{fresh}
 use Rattle.laggersten.proofs.fresh.Goals as goal
 
 pub fresh-requires : goal.fresh-requires

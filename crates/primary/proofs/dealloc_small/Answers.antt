@@ -1,6 +1,4 @@
 -- `primary::dealloc_small` meets its contract, by its test. Assumes nothing.
-use borrow.Author.Rules.{rules}
-use mathlib.Core.Path.{◌≡◌}
 use Rattle.reclaiming.proofs.ReclaimingLaws.{working_cells}
 use Rattle.heap.proofs.HeapLaws.{block_slot}
 use Rattle.primary.proofs.PrimaryLaws.{by_owner, by_another}

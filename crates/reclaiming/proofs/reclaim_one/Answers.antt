@@ -1,5 +1,4 @@
 -- `reclaiming::reclaim_one` meets its contract: a fold and a refile, or nothing. Assumes nothing.
-use borrow.Author.Rules.{rules}
 use mathlib.Core.Path.{sym, ◌∙◌}
 use native.Mathlib.Omega.{arith}
 use Rattle.placing.proofs.PlacingKept.{working_as, working_links}

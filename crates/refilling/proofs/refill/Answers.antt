@@ -1,12 +1,9 @@
 -- `refilling::refill` meets its contract: what is left to refill falls by the claim. Assumes nothing.
-use borrow.Author.Rules.{rules}
-use mathlib.Core.Path.{◌≡◌, sym, ap, ◌∙◌}
-use Prim.Native.Nat.{ℕ, ◌<◌}
+use mathlib.Core.Path.{sym, ◌∙◌}
 use native.Mathlib.Omega.{arith}
-use Rattle.tables.specs.Cells.{tables}
 use Rattle.linked_list.proofs.ReachLaws.{head_here}
 use Rattle.placing.proofs.PlacingKept.{working_links, working_room}
-use Rattle.refilling.proofs.RefillingLaws.{refill_out, refill_full, Refilling, refill_start, capacity_few, replenished_working, refill_ends, refill_fronted, refill_again}
+use Rattle.refilling.proofs.RefillingLaws.{refill_out, refill_full, refill_start, capacity_few, replenished_working, refill_ends, refill_fronted, refill_again}
 use Rattle.refilling.proofs.refill.Goals as goal
 
 pub loop-left-init : goal.loop-left-init

@@ -1,7 +1,5 @@
 -- `replenishing::create` meets its contract: a new span, and a push. Assumes nothing.
-use borrow.Author.Rules.{rules}
-use mathlib.Core.Path.{◌≡◌, refl, ap, ◌∙◌}
-use Prim.Native.Nat.{◌+◌}
+use mathlib.Core.Path.{refl, ap, ◌∙◌}
 use native.Mathlib.Omega.{arith}
 use Rattle.tables.specs.Cells.{Tables}
 use Rattle.placing.proofs.PlacingKept.{working_as, working_links}

@@ -1,5 +1,4 @@
 -- `replenishing::none_empty` meets its contract: its two tests. Assumes nothing.
-use borrow.Author.Rules.{rules}
 use Rattle.tables.specs.Cells.{tables}
 use Rattle.replenishing.proofs.ReplenishingLaws.{none_empty_not, none_empty_is}
 use Rattle.replenishing.proofs.none_empty.Goals as goal

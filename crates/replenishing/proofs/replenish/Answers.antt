@@ -1,6 +1,5 @@
 -- `replenishing::replenish` meets its contract: the walk over full spans, and what else can be had. Assumes nothing.
-use borrow.Author.Rules.{rules}
-use mathlib.Core.Path.{◌≡◌, sym, ◌∙◌}
+use mathlib.Core.Path.{sym, ◌∙◌}
 use native.Mathlib.Omega.{arith}
 use Rattle.linked_list.proofs.ReachLaws.{head_here}
 use Rattle.placing.proofs.PlacingKept.{working_as, working_links}

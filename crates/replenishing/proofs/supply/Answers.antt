@@ -1,7 +1,5 @@
 -- `replenishing::supply` meets its contract: its three tests in turn. Assumes nothing.
-use borrow.Author.Rules.{rules}
-use mathlib.Core.Path.{◌≡◌, sym, ◌∙◌}
-use borrow.Author.Tests.{not-true, not-false}
+use mathlib.Core.Path.{sym, ◌∙◌}
 use native.Mathlib.Omega.{arith}
 use Rattle.tables.specs.Cells.{tables}
 use Rattle.linked_list.proofs.ReachLaws.{head_here}

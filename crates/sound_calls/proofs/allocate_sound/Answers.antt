@@ -1,12 +1,9 @@
 -- `sound_calls::allocate_sound` meets its contract, by its tests. Assumes nothing.
-use borrow.Author.Rules.{rules}
-use mathlib.Core.Path.{◌≡◌, sym, ap, ◌∙◌}
-use Prim.Native.Nat.{ℕ}
+use mathlib.Core.Path.{sym}
 use native.Mathlib.Omega.{arith}
-use Rattle.tables.specs.Shape.{shape, most_heaps}
+use Rattle.tables.specs.Shape.{shape}
 use Rattle.tables.specs.Cells.{tables}
 use Rattle.calls.specs.Calls.{words_needed}
-use Rattle.calls.specs.Outcome.{ended}
 use Rattle.sound_calls.proofs.LentLaws.{lent_heaps, lent_working, lent_fronts, lent_words}
 use Rattle.sound_calls.proofs.AllocationTests.{found_class, no_heap_lem, few_words_lem, too_large_lem, in_class_lem}
 use Rattle.sound_calls.proofs.allocate_sound.Goals as goal

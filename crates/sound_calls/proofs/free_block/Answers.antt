@@ -1,6 +1,4 @@
 -- `sound_calls::free_block` meets its contract, by the block's state. Assumes nothing.
-use borrow.Author.Rules.{rules}
-use mathlib.Core.Path.{◌≡◌, sym, ◌∙◌}
 use Rattle.placing.proofs.PlacingKept.{working_room}
 use Rattle.reclaiming.proofs.ReclaimingLaws.{working_cells}
 use Rattle.heap.proofs.HeapLaws.{block_slot, block_small}

@@ -1,6 +1,5 @@
 -- `sound_calls::free_sound` meets its contract, by its tests. Assumes nothing.
-use borrow.Author.Rules.{rules}
-use mathlib.Core.Path.{◌≡◌, sym, ◌∙◌}
+use mathlib.Core.Path.{sym}
 use native.Mathlib.Omega.{arith}
 use Rattle.tables.specs.Shape.{shape}
 use Rattle.tables.specs.Cells.{tables}

@@ -1,5 +1,4 @@
 -- `sound_check::class_at` meets its contract. Assumes nothing.
-use borrow.Author.Rules.{rules}
 use Rattle.tables.specs.Shape.{class_heap}
 use Rattle.sound_check.proofs.class_at.Goals as goal
 

@@ -1,8 +1,7 @@
 -- `sound_check::rows_sound` meets its contract: the rows passed are right, and the spans met in them are counted. Assumes nothing.
-use borrow.Author.Rules.{rules}
 use mathlib.Core.Path.{◌≡◌, sym, ap, ap₂, subst, ◌∙◌}
 use mathlib.Core.List.{List}
-use Prim.Native.Nat.{ℕ, ◌+◌, ◌-◌, ◌*◌, ◌/◌, ◌%◌, ◌^◌, ◌<◌, ◌≤◌}
+use Prim.Native.Nat.{ℕ, ◌+◌, ◌*◌, ◌/◌, ◌%◌, ◌^◌, ◌<◌, ◌≤◌}
 use native.Mathlib.Nat.{mod-lt}
 use native.Mathlib.Omega.{arith}
 use lib.ListN.{length}
@@ -17,11 +16,9 @@ use Rattle.sound.specs.Sound.{MagazineSound}
 use Rattle.sound_spans.proofs.TestLaws.{granted, refuted, says_eqb}
 use Rattle.sound_lists.specs.Walked.{ClassLists, spans_in, ClassCells, Met}
 use Rattle.sound_lists.proofs.WalkLaws.{used_small}
-use Rattle.sound_check.specs.Joined.{Passed}
-use Rattle.sound_check.proofs.BaseTurns.{base_at, row_at, base_first, base_next, capacity_at}
+use Rattle.sound_check.proofs.BaseTurns.{row_at, base_first, base_next, capacity_at}
 use Rattle.sound_check.proofs.RowTurns.{fields_used, heads_there, entries_there, row_heap, passed_none, passed_few, passed_more, all_rows, rows_all}
 use Rattle.sound_check.proofs.rows_sound.Goals as goal
-use Rattle.sound_check.proofs.rows_sound.Invariants.{Rows}
 
 -- There are at most 768 rows.
 few_rows : {sizes : List ℕ} {heaps : ℕ} → Admissible sizes → heaps ≤ most_heaps → heaps * length sizes ≤ 768

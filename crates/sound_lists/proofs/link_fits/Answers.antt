@@ -1,5 +1,4 @@
 -- `sound_lists::link_fits` meets its contract: each test decides one clause. Assumes nothing.
-use borrow.Author.Rules.{rules}
 use native.Mathlib.Omega.{arith}
 use Rattle.span.proofs.CellsThere.{field_there}
 use Rattle.sound_lists.proofs.WalkLaws.{record_there}

@@ -1,16 +1,12 @@
 -- `sound_lists::list_met` meets its contract: the list is right exactly where what the walk has not yet met of it is. Assumes nothing.
-use borrow.Author.Rules.{rules}
 use mathlib.Core.Path.{sym, subst}
-use mathlib.Core.List.{List}
-use Prim.Native.Nat.{ℕ, ◌+◌, ◌-◌, ◌<◌, ◌≤◌}
+use Prim.Native.Nat.{◌+◌, ◌-◌, ◌<◌}
 use native.Mathlib.Omega.{arith}
-use Rattle.tables.specs.declared.ClassHeap.{ClassHeap}
 use Rattle.tables.specs.Cells.{tables}
 use Rattle.span.proofs.CellsThere.{field_there}
 use Rattle.sound_spans.proofs.TestLaws.{granted, refuted}
 use Rattle.sound_lists.proofs.WalkLaws.{record_there, used_small, Reach, start, end, step, fits, endless}
 use Rattle.sound_lists.proofs.list_met.Goals as goal
-use Rattle.sound_lists.proofs.list_met.Invariants.{Walking}
 
 pub loop-x-init : goal.loop-x-init
 loop-x-init c =

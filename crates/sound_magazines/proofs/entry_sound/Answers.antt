@@ -1,6 +1,4 @@
 -- `sound_magazines::entry_sound` meets its contract: each test decides one clause of an entry. Assumes nothing.
-use borrow.Author.Rules.{rules}
-use borrow.Author.Tests.{not-true, not-false}
 use mathlib.Core.Path.{sym, ◌∙◌}
 use mathlib.Core.Bool.{true≢false}
 use native.Mathlib.Omega.{arith}

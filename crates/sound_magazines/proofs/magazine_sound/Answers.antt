@@ -1,16 +1,11 @@
 -- `sound_magazines::magazine_sound` meets its contract: the entries passed are right, and no two of them are equal. Assumes nothing.
-use borrow.Author.Rules.{rules}
 use borrow.Author.Count.{below_more, below_none}
-use mathlib.Core.Path.{◌≡◌, refl, sym, subst, ◌∙◌}
-use mathlib.Core.Bool.{Bool, true}
-use Prim.Native.Nat.{ℕ, ◌-◌, ◌<◌, ◌≤◌}
+use mathlib.Core.Path.{refl, sym, subst, ◌∙◌}
 use native.Mathlib.Omega.{arith}
-use Rattle.tables.specs.declared.ClassHeap.{ClassHeap}
-use Rattle.tables.specs.Cells.{Tables, tables, entry_at}
+use Rattle.tables.specs.Cells.{Tables, tables}
 use Rattle.sound.specs.Sound.{EntrySound}
 use Rattle.sound_spans.proofs.TestLaws.{granted, refuted}
 use Rattle.sound_magazines.proofs.magazine_sound.Goals as goal
-use Rattle.sound_magazines.proofs.magazine_sound.Invariants.{Passed, Beside}
 
 pub returns-then-n-k : goal.returns-then-n-k
 returns-then-n-k c z = omega (arith, z.count, c.count-n.ensures, c.if-n-k.true)

@@ -1,14 +1,10 @@
 -- `sound_magazines::magazine_sound` meets its contract: the entries passed are right, and no two of them are equal. Assumes nothing.
-use borrow.Author.Rules.{rules}
-use borrow.Author.Count.{below_more, below_none}
-use mathlib.Core.Path.{◌≡◌, refl, sym, subst, ◌∙◌}
+use mathlib.Core.Path.{◌≡◌}
 use mathlib.Core.Bool.{Bool, true}
 use Prim.Native.Nat.{ℕ, ◌-◌, ◌<◌, ◌≤◌}
-use native.Mathlib.Omega.{arith}
 use Rattle.tables.specs.declared.ClassHeap.{ClassHeap}
 use Rattle.tables.specs.Cells.{Tables, tables, entry_at}
 use Rattle.sound.specs.Sound.{EntrySound}
-use Rattle.sound_spans.proofs.TestLaws.{granted, refuted}
 use Rattle.sound_magazines.proofs.magazine_sound.Given as goal
 
 -- the check has come to entry j of n, and beside it to entry i

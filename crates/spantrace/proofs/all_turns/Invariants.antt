@@ -1,5 +1,4 @@
 -- `spantrace::all_turns` ends: the turns left fall. Assumes nothing.
-use Rattle.std.proofs.Common.{rules}
 use Rattle.spantrace.proofs.all_turns.Given as goal
 
 abbrev pub invariant-loop-turns : goal.invariant-loop-turns

@@ -1,5 +1,5 @@
 -- `spantrace::answer_line` meets its contract: letter, four numbers and the line's end, one after the other. Assumes nothing.
-use Rattle.std.proofs.Common.{[], ◌∷◌, rules}
+use Rattle.std.proofs.Common.{[], ◌∷◌}
 use Rattle.spantrace.proofs.TraceLaws.{Written, written_then}
 use Rattle.spantrace.proofs.answer_line.Goals as goal
 

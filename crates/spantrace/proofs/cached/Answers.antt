@@ -1,9 +1,8 @@
 -- `spantrace::cached` meets its contract: the entries passed that name the span are counted. Assumes nothing.
-use Rattle.std.proofs.Common.{◌≡◌, ℕ, ◌-◌, ◌≤◌, List, subst, arith, rules}
+use Rattle.std.proofs.Common.{◌≡◌, ℕ, subst, arith}
 use Rattle.spantrace.specs.Trace.{named_in}
 use Rattle.spantrace.proofs.TraceLaws.{named_none, named_more}
 use Rattle.spantrace.proofs.cached.Goals as goal
-use Rattle.spantrace.proofs.cached.Invariants.{Counted}
 
 pub loop-i-init : goal.loop-i-init
 loop-i-init c = record { few = omega arith; most = omega arith; is = named_none _ _ _ }

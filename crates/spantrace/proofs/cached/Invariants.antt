@@ -1,7 +1,6 @@
 -- `spantrace::cached` meets its contract: the entries passed that name the span are counted. Assumes nothing.
-use Rattle.std.proofs.Common.{◌≡◌, ℕ, ◌-◌, ◌≤◌, List, subst, arith, rules}
+use Rattle.std.proofs.Common.{◌≡◌, ℕ, ◌-◌, ◌≤◌, List}
 use Rattle.spantrace.specs.Trace.{named_in}
-use Rattle.spantrace.proofs.TraceLaws.{named_none, named_more}
 use Rattle.spantrace.proofs.cached.Given as goal
 
 -- the entries before i are counted

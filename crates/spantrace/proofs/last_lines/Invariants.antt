@@ -1,5 +1,5 @@
 -- `spantrace::last_lines` meets its contract: each line within the text. Assumes nothing.
-use Rattle.std.proofs.Common.{◌≡◌, ◌-◌, ◌≤◌, length, rules}
+use Rattle.std.proofs.Common.{◌≡◌, ◌-◌, ◌≤◌, length}
 use Rattle.io.specs.Counts.{IsPrefixLen}
 use Rattle.spantrace.proofs.last_lines.Given as goal
 

@@ -1,5 +1,5 @@
 -- `spantrace::named` meets its contract: the test both ways. Assumes nothing.
-use Rattle.std.proofs.Common.{arith, rules}
+use Rattle.std.proofs.Common.{arith}
 use Rattle.spantrace.proofs.TraceLaws.{names, names_other}
 use Rattle.spantrace.proofs.named.Goals as goal
 

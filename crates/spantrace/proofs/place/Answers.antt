@@ -1,5 +1,4 @@
 -- `spantrace::place` meets its contract: its tests in turn. Assumes nothing.
-use Rattle.std.proofs.Common.{rules}
 use Rattle.spantrace.proofs.TraceLaws.{place_reserve, place_empty, place_full, place_partial}
 use Rattle.spantrace.proofs.place.Goals as goal
 

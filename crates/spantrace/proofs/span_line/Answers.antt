@@ -1,5 +1,5 @@
 -- `spantrace::span_line` meets its contract: every cell it reads is within its table. Assumes nothing.
-use Rattle.std.proofs.Common.{arith, rules}
+use Rattle.std.proofs.Common.{arith}
 use Rattle.tables.specs.Shape.{bitmap_cells, record_cells}
 use Rattle.tables.specs.Cells.{span_cell}
 use Rattle.spantrace.proofs.TraceLaws.{sizes_admissible, heap_named, class_named, home_here, head_here}

@@ -1,5 +1,4 @@
 -- `summing::add` meets its contract. Assumes nothing.
-use borrow.Author.Rules.{rules}
 use mathlib.Core.Path.{◌∙◌}
 use Rattle.summing.specs.Tally.{added}
 use Rattle.summing.proofs.add.Goals as goal

@@ -1,5 +1,4 @@
 -- `summing::add_span` meets its contract: three additions to the record of the span's class. Assumes nothing.
-use borrow.Author.Rules.{rules}
 use native.Mathlib.Omega.{arith}
 use Rattle.span.proofs.CellsThere.{field_there}
 use Rattle.summing.proofs.StepLaws.{fits_spans, fits_used, fits_pending, span_is_added}

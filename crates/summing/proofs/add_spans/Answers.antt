@@ -1,13 +1,10 @@
 -- `summing::add_spans` meets its contract: the spans passed are counted. Assumes nothing.
-use borrow.Author.Rules.{rules}
 use mathlib.Core.Path.{◌≡◌, sym, subst, ◌∙◌}
-use mathlib.Core.List.{List}
-use Prim.Native.Nat.{ℕ, ◌-◌, ◌≤◌}
+use Prim.Native.Nat.{ℕ}
 use native.Mathlib.Omega.{arith}
 use Rattle.summing.specs.Tally.{Tallied}
 use Rattle.summing.proofs.TallyLaws.{span_fits, tallied_more}
 use Rattle.summing.proofs.add_spans.Goals as goal
-use Rattle.summing.proofs.add_spans.Invariants.{Passed}
 
 pub loop-s-init : goal.loop-s-init
 loop-s-init c = record { within = omega arith; tallied = c.requires.tallied }

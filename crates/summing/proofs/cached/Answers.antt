@@ -1,15 +1,12 @@
 -- `summing::cached` meets its contract: the counts of the heaps passed are added. Assumes nothing.
-use borrow.Author.Rules.{rules}
 use mathlib.Core.Path.{◌≡◌, subst}
-use mathlib.Core.List.{List}
-use Prim.Native.Nat.{ℕ, ◌-◌, ◌*◌, ◌≤◌}
+use Prim.Native.Nat.{ℕ}
 use native.Mathlib.Omega.{arith}
 use Rattle.magazine_layout.specs.Layout.{most_capacity}
 use Rattle.tables.specs.Shape.{most_heaps}
 use Rattle.summing.specs.Tally.{cached_in}
 use Rattle.summing.proofs.TallyLaws.{cached_none, cached_more, row_there, row_below}
 use Rattle.summing.proofs.cached.Goals as goal
-use Rattle.summing.proofs.cached.Invariants.{Counted}
 
 pub loop-h-init : goal.loop-h-init
 loop-h-init c = record { within = omega arith; most = omega arith; is = cached_none _ _ _ }

@@ -1,13 +1,9 @@
 -- `summing::cached` meets its contract: the counts of the heaps passed are added. Assumes nothing.
-use borrow.Author.Rules.{rules}
-use mathlib.Core.Path.{◌≡◌, subst}
+use mathlib.Core.Path.{◌≡◌}
 use mathlib.Core.List.{List}
 use Prim.Native.Nat.{ℕ, ◌-◌, ◌*◌, ◌≤◌}
-use native.Mathlib.Omega.{arith}
 use Rattle.magazine_layout.specs.Layout.{most_capacity}
-use Rattle.tables.specs.Shape.{most_heaps}
 use Rattle.summing.specs.Tally.{cached_in}
-use Rattle.summing.proofs.TallyLaws.{cached_none, cached_more, row_there, row_below}
 use Rattle.summing.proofs.cached.Given as goal
 
 -- the heaps before h are counted

@@ -1,5 +1,4 @@
 -- `summing::cell` meets its contract: the cell read is the one named. Assumes nothing.
-use borrow.Author.Rules.{rules}
 use Rattle.summing.proofs.cell.Goals as goal
 
 pub returns : goal.returns

@@ -1,5 +1,4 @@
 -- `summing::class_records` meets its contract: all spans are counted, then all classes are written. Assumes nothing.
-use borrow.Author.Rules.{rules}
 use Rattle.summing.proofs.TallyLaws.{tallied_none, spans_few}
 use Rattle.summing.proofs.RecordLaws.{written_all}
 use Rattle.summing.proofs.class_records.Goals as goal

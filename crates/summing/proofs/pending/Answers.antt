@@ -1,15 +1,12 @@
 -- `summing::pending` meets its contract: the set bits of the remote words passed are counted. Assumes nothing.
-use borrow.Author.Rules.{rules}
 use mathlib.Core.Path.{◌≡◌, subst}
-use mathlib.Core.List.{List}
-use Prim.Native.Nat.{ℕ, ◌-◌, ◌*◌, ◌≤◌}
+use Prim.Native.Nat.{ℕ}
 use native.Mathlib.Omega.{arith}
 use Rattle.laws.proofs.WordLaws.{ones_most}
 use Rattle.span.proofs.CellsThere.{remote_word_there}
 use Rattle.summing.specs.Tally.{pending_in}
 use Rattle.summing.proofs.TallyLaws.{pending_none, pending_more}
 use Rattle.summing.proofs.pending.Goals as goal
-use Rattle.summing.proofs.pending.Invariants.{Counted}
 
 pub loop-i-init : goal.loop-i-init
 loop-i-init c = record { few = omega arith; most = omega arith; is = pending_none _ _ }

@@ -1,13 +1,8 @@
 -- `summing::pending` meets its contract: the set bits of the remote words passed are counted. Assumes nothing.
-use borrow.Author.Rules.{rules}
-use mathlib.Core.Path.{◌≡◌, subst}
+use mathlib.Core.Path.{◌≡◌}
 use mathlib.Core.List.{List}
 use Prim.Native.Nat.{ℕ, ◌-◌, ◌*◌, ◌≤◌}
-use native.Mathlib.Omega.{arith}
-use Rattle.laws.proofs.WordLaws.{ones_most}
-use Rattle.span.proofs.CellsThere.{remote_word_there}
 use Rattle.summing.specs.Tally.{pending_in}
-use Rattle.summing.proofs.TallyLaws.{pending_none, pending_more}
 use Rattle.summing.proofs.pending.Given as goal
 
 -- the words before i are counted

@@ -1,5 +1,4 @@
 -- `summing::put_cell` meets its contract: the cell stored to is the one named. Assumes nothing.
-use borrow.Author.Rules.{rules}
 use Rattle.summing.proofs.put_cell.Goals as goal
 
 pub returns : goal.returns

@@ -1,6 +1,4 @@
 -- `summing::summary` meets its contract: each test is one of the definition's. Assumes nothing.
-use borrow.Author.Rules.{rules}
-use borrow.Author.Tests.{not-true, not-false}
 use Rattle.tables.specs.Shape.{shape}
 use Rattle.tables.specs.Cells.{tables}
 use Rattle.calls.specs.Summary.{summary_cells}

@@ -1,5 +1,4 @@
 -- `summing::write_class` meets its contract: two stores to the record of the class. Assumes nothing.
-use borrow.Author.Rules.{rules}
 use mathlib.Core.Path.{subst, sym}
 use Prim.Native.Nat.{ℕ, ◌*◌, ◌^◌, ◌≤◌}
 use native.Mathlib.Omega.{arith}

@@ -1,14 +1,11 @@
 -- `summing::write_classes` meets its contract: the classes passed are written. Assumes nothing.
-use borrow.Author.Rules.{rules}
 use mathlib.Core.Path.{◌≡◌, sym, subst, ◌∙◌}
-use mathlib.Core.List.{List}
-use Prim.Native.Nat.{ℕ, ◌-◌, ◌^◌, ◌≤◌}
+use Prim.Native.Nat.{ℕ, ◌^◌, ◌≤◌}
 use native.Mathlib.Omega.{arith}
 use lib.ListN.{length}
 use Rattle.summing.specs.Tally.{Written}
 use Rattle.summing.proofs.RecordLaws.{written_none, written_more}
 use Rattle.summing.proofs.write_classes.Goals as goal
-use Rattle.summing.proofs.write_classes.Invariants.{Passed}
 
 pub loop-c-init : goal.loop-c-init
 loop-c-init c = record { within = omega arith; written = written_none _ _ _ c.requires.classes_fit.long }

@@ -1,12 +1,8 @@
 -- `summing::write_classes` meets its contract: the classes passed are written. Assumes nothing.
-use borrow.Author.Rules.{rules}
-use mathlib.Core.Path.{◌≡◌, sym, subst, ◌∙◌}
 use mathlib.Core.List.{List}
-use Prim.Native.Nat.{ℕ, ◌-◌, ◌^◌, ◌≤◌}
-use native.Mathlib.Omega.{arith}
+use Prim.Native.Nat.{ℕ, ◌-◌, ◌≤◌}
 use lib.ListN.{length}
 use Rattle.summing.specs.Tally.{Written}
-use Rattle.summing.proofs.RecordLaws.{written_none, written_more}
 use Rattle.summing.proofs.write_classes.Given as goal
 
 -- the classes before c are written
