@@ -3,7 +3,7 @@
 
 // What a call answers: its number, and for an accepted one the block and the number of words used.
 #[repr(C)]
-#[derive(Drop)]
+#[derive(Clone, Copy)]
 pub struct Answer {
     pub number: u64,
     pub span: u64,

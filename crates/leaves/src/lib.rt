@@ -17,7 +17,7 @@ use size_classes::{ClassFound, SlotFound};
 
 // A claim: the word and the mask, and word 64 where nothing was found.
 #[repr(C)]
-#[derive(Drop)]
+#[derive(Clone, Copy)]
 pub struct Found {
     pub word: u64,
     pub mask: u64,

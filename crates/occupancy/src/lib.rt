@@ -6,7 +6,7 @@ ghost use Rattle.occupancy.specs.Occupied.{window_of, fresh_of, claim, release_s
 ghost use Rattle.occupancy.specs.Right.{is_taken, Right, Held, Pending, first_clear};
 
 // "64 words and a summary word", and how many slots are taken.
-#[derive(Drop)]
+#[derive(Clone, Copy)]
 pub struct Occupancy {
     pub summary: u64,
     pub words: [u64; 64],
@@ -14,14 +14,14 @@ pub struct Occupancy {
 }
 
 // What a claim gives: nothing, or the slots of a mask in one word.
-#[derive(Drop)]
+#[derive(Clone, Copy)]
 pub enum Claimed {
     Nothing,
     Taken { word: u64, mask: u64 },
 }
 
 // A claim's answer, with the state beside it.
-#[derive(Drop)]
+#[derive(Clone, Copy)]
 pub struct Claim {
     pub answer: Claimed,
     pub occupancy: Occupancy,

@@ -14,7 +14,7 @@ const MOST_SPANS: u64 = 1024;
 
 // What is counted of one class.
 #[repr(C)]
-#[derive(Drop)]
+#[derive(Clone, Copy)]
 pub struct ClassRecord {
     pub spans: u64,
     pub slots: u64,
