@@ -13,7 +13,7 @@ use Rattle.calls.specs.Primary.{dealloc_small}
 
 -- 1, "first", then 2, "the table is unsound", then what a sound table answers
 unfoldable pub guarded : Shape → Tables → Outcome → Outcome
-guarded g t onSound = cond (as_stated g t) (cond (is_sound g t) onSound (refused 2 t)) (refused 1 t)
+guarded g t on_sound = cond (as_stated g t) (cond (is_sound g t) on_sound (refused 2 t)) (refused 1 t)
 
 -- "allocation with fewer than 65 words lent"
 unfoldable pub words_needed : ℕ

@@ -19,7 +19,7 @@ use Rattle.linked_list.specs.Named.{heads_at, RowName, ListName, ReserveName, no
 use Rattle.linked_list.proofs.ReachLaws.{head_here}
 use Rattle.linked_list.proofs.ListCells.{push_pushed, remove_removed}
 
--- noList is no list's cell
+-- no_list is no list's cell
 pub no_list_lem : (IsRow : ℕ → Type 0) → ListName IsRow no_list → ⊥
 no_list_lem IsRow o =
     let e : counter ≡ o.kind = (head_same 0 o.row (list_in (omega arith)) (list_in (omega (arith, o.low))) o.cell).1 in

@@ -6,7 +6,7 @@ ghost use Rattle.class_lookup.specs.Lookup.{ClassTables};
 ghost use Rattle.tables.specs.Shape.{shape};
 ghost use Rattle.tables.specs.Cells.{tables as table};
 ghost use Rattle.span.specs.State.{out_state};
-ghost use Rattle.calls.specs.Outcome.{ended, refusal as refusalOf};
+ghost use Rattle.calls.specs.Outcome.{ended, refusal as refusal_of};
 ghost use Rattle.calls.specs.Calls.{allocate_sound, free_sound};
 ghost use Rattle.sound_calls.specs.Lent.{Lent, Block, free_block};
 
@@ -23,7 +23,7 @@ const OWNER: u64 = 1;
 
 // A refusal: its number and zeros.
 pub fn refusal(number: u64) -> Answer
-    ensures { result ≡ refusalOf number }
+    ensures { result ≡ refusal_of number }
 {
     Answer {
         number: number,

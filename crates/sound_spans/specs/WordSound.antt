@@ -13,9 +13,9 @@ unfoldable pub pad_of : ℕ → ℕ → ℕ
 pad_of slots i = 2 ^ 64 - 2 ^ min (slots - i * 64) 64
 
 -- word i of a span with so many slots
-pub record WordSound (slots summary pendingSummary i x p : ℕ) : Type 0 where
+pub record WordSound (slots summary pending_summary i x p : ℕ) : Type 0 where
   pub full : is_set summary i ≡ eqb x all_ones
-  pub some : is_set pendingSummary i ≡ not (eqb p 0)
+  pub some : is_set pending_summary i ≡ not (eqb p 0)
   pub past : (b : ℕ) → b < 64 → slots ≤ i * 64 + b → is_set x b ≡ true
   pub pending : (b : ℕ) → b < 64 → is_set p b ≡ true → (i * 64 + b < slots) × (is_set x b ≡ true)
 

@@ -9,7 +9,7 @@ ghost use Rattle.occupancy.specs.Occupied.{fresh_of};
 ghost use Rattle.tables.specs.Shape.{bitmap_cells};
 ghost use Rattle.tables.specs.Cells.{tables as table, bitmap_cell, span_cell, local_summary, class_field};
 ghost use Rattle.span.specs.Room.{WordCells, FieldCells, SpanCells};
-ghost use Rattle.span.specs.Span.{loaded, stored as storedIn, is_full, is_empty, has_pending, clear_pending, remote_free, new_span};
+ghost use Rattle.span.specs.Span.{loaded, stored as stored_in, is_full, is_empty, has_pending, clear_pending, remote_free, new_span};
 
 use occupancy::Occupancy;
 use tables::ClassHeap;
@@ -77,7 +77,7 @@ pub fn load(bits: &[u64], spans: &[u64], s: u64) -> Occupancy
 // The occupancy of span s becomes o.
 pub fn store(bits: &mut [u64], spans: &mut [u64], s: u64, o: Occupancy)
     requires { SpanCells bits.old spans.old s }
-    ensures { (e h : List ℕ) (u : ℕ) → table bits.new spans.new e h u ≡ storedIn (table bits.old spans.old e h u) s o }
+    ensures { (e h : List ℕ) (u : ℕ) → table bits.new spans.new e h u ≡ stored_in (table bits.old spans.old e h u) s o }
 {
     let words = o.words;
     tables::put_word(bits, s, LOCAL_SUMMARY, o.summary);

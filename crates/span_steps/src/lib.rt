@@ -9,7 +9,7 @@ ghost use Rattle.tables.specs.Cells.{tables as table, span_cell, occupied_field,
 ghost use Rattle.magazine.specs.Room.{Room, count_in};
 ghost use Rattle.magazine.specs.Magazine.{push_entries};
 ghost use Rattle.span.specs.Room.{WordCells, SpanCells, Foldable, occupancy_in, pending_in};
-ghost use Rattle.span.specs.Span.{stored as storedIn, dealloc_slot, reclaim_pending, folded, claimed_entries};
+ghost use Rattle.span.specs.Span.{stored as stored_in, dealloc_slot, reclaim_pending, folded, claimed_entries};
 ghost use Rattle.span.specs.State.{state_in};
 
 use occupancy::{Claimed, Occupancy};
@@ -70,7 +70,7 @@ pub fn claim(bits: &mut [u64], spans: &mut [u64], s: u64, max: u64, random: u64)
     requires span_cells { SpanCells bits.old spans.old s }
     requires by_index { (slots : ℕ) × Right slots (occupancy_in bits.old spans.old s) }
     ensures answer { result ≡ (claim_of (occupancy_in bits.old spans.old s) max random).answer }
-    ensures cells { (e h : List ℕ) (u : ℕ) → table bits.new spans.new e h u ≡ storedIn (table bits.old spans.old e h u) s (claim_of (occupancy_in bits.old spans.old s) max random).occupancy }
+    ensures cells { (e h : List ℕ) (u : ℕ) → table bits.new spans.new e h u ≡ stored_in (table bits.old spans.old e h u) s (claim_of (occupancy_in bits.old spans.old s) max random).occupancy }
 {
     let o = span::load(bits, spans, s);
     let c = o.claim_up_to(max, random);
