@@ -34,13 +34,12 @@ alloc_small-requires c =
     let a = c.args in
     let x = c.requires.by_index.1 in
     let hh = c.if-heap-heaps.false in
-    let l = c.if-words-lt-WORDS_NEEDED.false in
     let hc = found_class _ x.sizes _ _ _ (sym c.in-Class.ensures) in
     let k = c.class_heap-k.ensures c.requires.by_index.0 a.heaps a.spans in
     record {
       working = lent_working x (omega (arith, hh)) hc k;
       fronts = lent_fronts x (omega (arith, hh)) hc k _ _ _;
-      capacity_in_bounds = lent_words x (omega (arith, hh)) hc k a.words.now (omega (arith, l));
+      capacity_in_bounds = lent_words x (omega (arith, hh)) hc k a.words.now (omega (arith, c.if-words-lt-WORDS_NEEDED.false));
     }
 
 pub returns-in-TooLarge : goal.returns-in-TooLarge
@@ -49,9 +48,9 @@ returns-in-TooLarge c =
     let a = c.args in
     let r = c.refusal-in-TooLarge.ensures in
     let h = c.if-heap-heaps.false in
-    let l = c.if-words-lt-WORDS_NEEDED.false in
+    let enough = c.if-words-lt-WORDS_NEEDED.false in
     let e = sym c.in-TooLarge.ensures in
-    λ most. too_large_lem (shape a.sizes.now most a.heaps a.spans) (tables a.bits.now a.records.now a.entries.now a.heads.now a.used.now) a.heap a.size a.alignment a.words.now (omega (arith, h)) (omega (arith, l)) _ r e
+    λ most. too_large_lem (shape a.sizes.now most a.heaps a.spans) (tables a.bits.now a.records.now a.entries.now a.heads.now a.used.now) a.heap a.size a.alignment a.words.now (omega (arith, h)) (omega (arith, enough)) _ r e
 
 pub returns-in-Class : goal.returns-in-Class
 unfolding words_needed
