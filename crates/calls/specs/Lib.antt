@@ -5,3 +5,4 @@ pub mod Calls
 pub mod Run
 pub mod Batch
 pub mod Summary
+pub mod Answered

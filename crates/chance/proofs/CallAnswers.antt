@@ -1,12 +1,12 @@
 -- What the calls answer on a whole table, for the requests of a list: a block given before and not freed since is out, and its free is done.
 -- Assumes nothing.
+use Rattle.std.specs.Prelude.{Option, Some, None}
 use mathlib.Core.Path.{◌≡◌, refl, sym, ap, subst, ◌∙◌}
 use mathlib.Core.Bool.{true}
 use mathlib.Core.List.{List}
 use Prim.Native.Nat.{ℕ, ◌*◌, ◌/◌, ◌^◌, ◌<◌, ◌≤◌}
 use native.Mathlib.Nat.{mul-div_cancel}
 use Rattle.size_classes.specs.Class.{in_range, smallest_class, class_of}
-use Rattle.size_classes.specs.declared.SlotFound.TheVariants.{Slot}
 use Rattle.size_classes.specs.Slots.{most_slots, slots_per_span, slot_offset, slot_at}
 use Rattle.size_classes.proofs.SlotTheorems.{accepts_exactly}
 use Rattle.tables.specs.declared.ClassHeap.{ClassHeap}
@@ -104,7 +104,7 @@ module _ (g : Shape) {t : Tables} (small : g.spans * most_slots ≤ 2 ^ 64) (o :
         let k = class_heap g h c in
         let pos = home_slot lent b.used home in
         let inside : q < slots_per_span k.slot = unfold class_heap in subst (λ (x : ClassHeap). q < x.slots) (sym home) i.slot in
-        let z : slot_at k.slot offset ≡ Slot q = (accepts_exactly k.slot offset pos q).1 (record { at = e; inside = inside }) in
+        let z : slot_at k.slot offset ≡ Some q = (accepts_exactly k.slot offset pos q).1 (record { at = e; inside = inside }) in
         let out : out_state (state_in t k s q) ≡ true =
         ap (λ (x : ClassHeap). out_state (state_in t x s q)) home ∙ (unfold state_of in ap out_state i.out) in
         sym

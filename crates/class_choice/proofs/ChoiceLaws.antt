@@ -1,4 +1,5 @@
 -- Why the search by bucket and then by alignment finds the smallest fitting class, for every admissible list. Assumes nothing.
+use Rattle.std.specs.Prelude.{Option, Some, None}
 use mathlib.Core.Bool.{Bool, true, false}
 use mathlib.Core.List.{List}
 use mathlib.Core.Path.{◌≡◌, sym, ap, ◌∙◌}
@@ -10,7 +11,6 @@ use lib.ListN.{length, get_or}
 use borrow.Author.Tests.{eqb-true, eqb-false, eq-eqb}
 use Rattle.laws.specs.First.{first}
 use Rattle.laws.proofs.FirstLaws.{first_holds, first_le, first_before, first_from}
-use Rattle.size_classes.specs.declared.ClassFound.TheVariants.{Class}
 use Rattle.size_classes.specs.SlotSizes.{slot_size, last_size, least_alignment, largest_slot, Admissible}
 use Rattle.size_classes.specs.Class.{raised, fits, class_of, lookup_entry, lookup_entries}
 use Rattle.size_classes.proofs.SlotSizeLaws.{size_le, size_least}
@@ -78,10 +78,10 @@ module _ (sizes : List ℕ) (ok : Admissible sizes) (s : ℕ) (hs : s ≤ last_s
   module _ (alignment : ℕ) (ha : raised alignment ≤ last_size sizes) where
     -- A class where a search may start, and whose slot is aligned, is the answer.
     found :
-        (k : ℕ) → Start sizes s (raised alignment) k → slot_size sizes k % raised alignment ≡ 0 → Class k ≡ class_of sizes s alignment
+        (k : ℕ) → Start sizes s (raised alignment) k → slot_size sizes k % raised alignment ≡ 0 → Some k ≡ class_of sizes s alignment
     found k t m =
         let e = smallest_is sizes s alignment k (omega (arith, t.class)) (fits_is sizes s (raised alignment) k t.holds m) t.before in
-        sym (in_range_lem sizes s alignment hs ha ∙ ap Class e)
+        sym (in_range_lem sizes s alignment hs ha ∙ ap Some e)
 
     -- A class at or after the start of a search, with no aligned slot between them, is where a search may start.
     start_later :
@@ -104,7 +104,7 @@ module _ (sizes : List ℕ) (ok : Admissible sizes) (s : ℕ) (hs : s ≤ last_s
         }
 
     -- A search by alignment from such a class gives the answer.
-    searched : (k : ℕ) → Start sizes s (raised alignment) k → Class (aligned_from sizes (raised alignment) k) ≡ class_of sizes s alignment
+    searched : (k : ℕ) → Start sizes s (raised alignment) k → Some (aligned_from sizes (raised alignment) k) ≡ class_of sizes s alignment
     unfolding aligned_from
     searched k t =
         let f : ℕ → Bool = λ j. eqb (slot_size sizes j % raised alignment) 0 in
@@ -122,7 +122,7 @@ module _ (sizes lookup : List ℕ) (t : ClassTables sizes lookup) (s : ℕ) (hs 
   entry_is e h = rw t.right (lookup_at sizes (bucket_of e) (bucket_entry e (omega (arith, t.admissible.largest))))
 
   -- For an alignment not above the least one, the entry for the size is the answer.
-  pub small_answer : (alignment : ℕ) → alignment ≤ least_alignment → Class (get_or lookup (bucket_of s) 0) ≡ class_of sizes s alignment
+  pub small_answer : (alignment : ℕ) → alignment ≤ least_alignment → Some (get_or lookup (bucket_of s) 0) ≡ class_of sizes s alignment
   small_answer alignment h =
       let ok = t.admissible in
       let n = length sizes - 1 in
@@ -150,6 +150,6 @@ module _ (sizes lookup : List ℕ) (t : ClassTables sizes lookup) (s : ℕ) (hs 
 
     -- What it finds is the answer.
     pub large_answer :
-        Class (aligned_from sizes (raised alignment) (get_or lookup (bucket_of (max s (raised alignment))) 0)) ≡ class_of sizes s alignment
+        Some (aligned_from sizes (raised alignment) (get_or lookup (bucket_of (max s (raised alignment))) 0)) ≡ class_of sizes s alignment
     large_answer =
         searched sizes t.admissible s hs alignment (raised_last sizes t.admissible alignment h) _ start_entry

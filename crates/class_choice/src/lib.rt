@@ -7,8 +7,6 @@ ghost use Rattle.size_classes.specs.Class.{class_of, lookup_entries};
 ghost use Rattle.class_lookup.specs.Lookup.{ClassTables};
 ghost use Rattle.class_choice.specs.Search.{bucket_of, aligned_from, Search};
 
-use size_classes::ClassFound;
-
 const LEAST_ALIGNMENT: u64 = 16;
 
 // The larger of two numbers.
@@ -54,30 +52,30 @@ fn aligned_from(sizes: &[u64], alignment: u64, class: u64) -> u64
 }
 
 // The class of a request, over lent slot sizes and their lookup table.
-pub fn class_of(sizes: &[u64], lookup: &[u8; 8192], size: u64, alignment: u64) -> ClassFound
+pub fn class_of(sizes: &[u64], lookup: &[u8; 8192], size: u64, alignment: u64) -> Option<u64>
     requires { ClassTables sizes.now lookup.now }
     ensures { result ≡ class_of sizes.now size alignment }
 {
     let last = sizes[sizes.len() - 1];
     if last < size {
-        return ClassFound::TooLarge;
+        return None;
     }
     if last < alignment {
-        return ClassFound::TooLarge;
+        return None;
     }
     // Each slot is a multiple of the least alignment, so of each smaller power of two.
     if alignment <= LEAST_ALIGNMENT {
         let class = entry(lookup, bucket(size));
-        return ClassFound::Class(class);
+        return Some(class);
     }
     let raised = size_classes::raise(alignment);
     let start = entry(lookup, bucket(larger(size, raised)));
     let class = aligned_from(sizes, raised, start);
-    ClassFound::Class(class)
+    Some(class)
 }
 
 // The class of a request, over the 48 slot sizes.
-pub fn from_layout(size: u64, alignment: u64) -> ClassFound
+pub fn from_layout(size: u64, alignment: u64) -> Option<u64>
     ensures { result ≡ class_of slot_sizes size alignment }
 {
     let sizes = size_classes::slot_sizes();

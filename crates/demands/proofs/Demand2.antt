@@ -1,13 +1,12 @@
--- Demand 2. Its second sentence: "Class choice, bit deposit and slot division are proved against their written definitions."; and of its first what is said
+-- Demand 2. Its second sentence: "Some choice, bit deposit and slot division are proved against their written definitions."; and of its first what is said
 -- over the definitions alone: the words used, and a batch as its single calls. Assumes nothing.
+use Rattle.std.specs.Prelude.{Option, Some, None}
 use mathlib.Core.Path.{◌≡◌, refl}
 use mathlib.Core.Bool.{true}
 use mathlib.Core.List.{List, ◌++◌}
 use mathlib.Core.Logic.{◌⊎◌}
 use Prim.Native.Nat.{ℕ, ◌+◌, ◌-◌, ◌*◌, ◌/◌, ◌^◌, ◌<◌, ◌≤◌}
 use lib.ListN.{length, drop}
-use Rattle.size_classes.specs.declared.ClassFound.{ClassFound}
-use Rattle.size_classes.specs.declared.ClassFound.TheVariants.{TooLarge}
 use Rattle.size_classes.specs.SlotSizes.{rising, groups, slot_sizes, slot_size, last_size}
 use Rattle.size_classes.specs.Class.{raised, smallest_class, class_of}
 use Rattle.size_classes.specs.Slots.{span_length, by_reciprocal}
@@ -38,14 +37,14 @@ pub class_choice : (size alignment : ℕ) → Answer slot_sizes size alignment (
 class_choice size alignment = answer slot_sizes slot_sizes_admissible size alignment
 
 -- and no other answer is one.
-pub class_choice_only : (size alignment : ℕ) (r : ClassFound) → Answer slot_sizes size alignment r → class_of slot_sizes size alignment ≡ r
+pub class_choice_only : (size alignment : ℕ) (r : Option ℕ) → Answer slot_sizes size alignment r → class_of slot_sizes size alignment ≡ r
 class_choice_only size alignment r p = answer_is slot_sizes slot_sizes_admissible size alignment r p
 
 -- Refusal 5 stands exactly where "size, or raised alignment, above 131072".
 pub five_exactly :
     (size alignment : ℕ) →
-    (class_of slot_sizes size alignment ≡ TooLarge → (131072 < size) ⊎ (131072 < raised alignment)) ×
-    ((131072 < size) ⊎ (131072 < raised alignment) → class_of slot_sizes size alignment ≡ TooLarge)
+    (class_of slot_sizes size alignment ≡ None → (131072 < size) ⊎ (131072 < raised alignment)) ×
+    ((131072 < size) ⊎ (131072 < raised alignment) → class_of slot_sizes size alignment ≡ None)
 five_exactly size alignment = rw last_size_lem at (too_large_exactly slot_sizes slot_sizes_admissible size alignment)
 
 -- The lowest n set bits of a word, as the code takes them, are Intel's PDEP of n ones.

@@ -13,7 +13,6 @@ ghost use Rattle.span.specs.Span.{stored, dealloc_slot, reclaim_pending};
 ghost use Rattle.leaves.specs.Numbers.{class_number, slot_number, claim_numbers};
 
 use occupancy::{Claimed, Occupancy};
-use size_classes::{ClassFound, SlotFound};
 
 // A claim: the word and the mask, and word 64 where nothing was found.
 #[repr(C)]
@@ -30,8 +29,8 @@ pub extern "C" fn laggersten_leaf_class(size: u64, alignment: u64) -> u64
 {
     let found = class_choice::from_layout(size, alignment);
     match found {
-        ClassFound::Class(k) => k,
-        ClassFound::TooLarge => 48,
+        Some(k) => k,
+        None => 48,
     }
 }
 
@@ -43,8 +42,8 @@ pub extern "C" fn laggersten_leaf_slot(slot: u64, offset: u64) -> u64
 {
     let found = size_classes::slot_at(slot, offset);
     match found {
-        SlotFound::Slot(q) => q,
-        SlotFound::NoSlot => 4096,
+        Some(q) => q,
+        None => 4096,
     }
 }
 

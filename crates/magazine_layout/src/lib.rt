@@ -5,6 +5,8 @@ ghost use Rattle.std.specs.Prelude.{◌≡◌, ◌<◌, ◌≤◌, length};
 ghost use Rattle.size_classes.specs.SlotSizes.{Admissible};
 ghost use Rattle.magazine_layout.specs.Layout.{capacity_for, low_water_for, magazine_offset, entries_per_heap};
 
+use size_classes::SlotSizes;
+
 const MAGAZINE_BYTES: u64 = 4096;
 
 const LEAST_CAPACITY: u64 = 8;
@@ -34,25 +36,21 @@ pub fn low_water_for(capacity: u64) -> u64
 }
 
 // Where the magazine of class c begins among its heap's entries.
-pub fn magazine_offset(sizes: &[u64], c: u64) -> u64
-    requires admissible { Admissible sizes.now }
-    requires c_in_bounds { c ≤ length sizes.now }
+pub fn magazine_offset(sizes: &SlotSizes, c: u64) -> u64
+    requires { c ≤ length sizes.now }
     ensures { result ≡ magazine_offset sizes.now c }
 {
-    let classes = c as usize;
     let mut offset: u64 = 0;
-    let mut j = 0;
-    while j < classes {
-        offset += capacity_for(sizes[j]);
-        j += 1;
+    for class in 0..c {
+        offset += capacity_for(sizes.slot(class));
     }
     offset
 }
 
 // How many entries the magazines of one heap have together.
-pub fn entries_per_heap(sizes: &[u64]) -> u64
-    requires { Admissible sizes.now }
-    ensures { result ≡ entries_per_heap sizes.now }
+pub fn entries_per_heap(sizes: &SlotSizes) -> u64
+    ensures entries { result ≡ entries_per_heap sizes.now }
+    ensures admissible { Admissible sizes.now }
 {
-    magazine_offset(sizes, sizes.len() as u64)
+    magazine_offset(sizes, sizes.classes())
 }

@@ -1,4 +1,5 @@
 -- Which classes fit a request, and how a search for the smallest ends, over any list of slot sizes. Assumes nothing.
+use Rattle.std.specs.Prelude.{Some, None}
 use mathlib.Core.Bool.{true, false, and-false, true≢false}
 use mathlib.Core.List.{List}
 use mathlib.Core.Logic.{◌⊎◌, inl, inr, ⊎_elim}
@@ -12,7 +13,6 @@ use lib.ListN.{length}
 use borrow.Author.Tests.{le-leb, lt-leb, leb-true, leb-false, eqb-true, eqb-false, eq-eqb, ne_eqb}
 use Rattle.laws.proofs.FirstLaws.{tested, first_is}
 use Rattle.laws.proofs.SomeLaws.{and_both}
-use Rattle.size_classes.specs.declared.ClassFound.TheVariants.{Class, TooLarge}
 use Rattle.size_classes.specs.SlotSizes.{slot_size, last_size}
 use Rattle.size_classes.specs.Class.{raised, fits, in_range, smallest_class, class_of}
 
@@ -76,17 +76,17 @@ module _ (sizes : List ℕ) (s a : ℕ) where
       ⊎_elim (λ x. rw (lt-leb s (last_size sizes) x)) (λ y. rw (lt-leb (raised a) (last_size sizes) y, and-false (leb s (last_size sizes)))) h
 
   -- A request in range is answered with the smallest class that fits.
-  pub in_range_lem : s ≤ last_size sizes → raised a ≤ last_size sizes → class_of sizes s a ≡ Class (smallest_class sizes s a)
+  pub in_range_lem : s ≤ last_size sizes → raised a ≤ last_size sizes → class_of sizes s a ≡ Some (smallest_class sizes s a)
   unfolding class_of in_range
   in_range_lem hs ha = rw (le-leb s (last_size sizes) hs, le-leb (raised a) (last_size sizes) ha)
 
   -- A size above the last slot is too large.
-  pub too_large_size : last_size sizes < s → class_of sizes s a ≡ TooLarge
+  pub too_large_size : last_size sizes < s → class_of sizes s a ≡ None
   unfolding class_of in_range
   too_large_size h = rw (lt-leb s (last_size sizes) h)
 
   -- A raised alignment above the last slot is too large.
-  pub too_large_align : last_size sizes < raised a → class_of sizes s a ≡ TooLarge
+  pub too_large_align : last_size sizes < raised a → class_of sizes s a ≡ None
   unfolding class_of in_range
   too_large_align h = rw (lt-leb (raised a) (last_size sizes) h, and-false (leb s (last_size sizes)))
 

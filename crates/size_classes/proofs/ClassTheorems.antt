@@ -1,5 +1,6 @@
--- Class choice in 01's words, for every admissible list: the answer is the smallest fitting class, a refusal stands exactly where the size or the
+-- Some choice in 01's words, for every admissible list: the answer is the smallest fitting class, a refusal stands exactly where the size or the
 -- raised alignment is above the last size, and no second answer fits. Assumes nothing.
+use Rattle.std.specs.Prelude.{Option, Some, None}
 use mathlib.Core.Bool.{true, true≢false}
 use mathlib.Core.List.{List}
 use mathlib.Core.Logic.{◌⊎◌, inl, inr, ⊎_elim}
@@ -9,8 +10,6 @@ use native.Mathlib.Decide.{dec_lt}
 use native.Mathlib.Omega.{arith}
 use lib.ListN.{length}
 use Rattle.laws.proofs.FirstLaws.{first_holds, first_le, first_before}
-use Rattle.size_classes.specs.declared.ClassFound.{ClassFound}
-use Rattle.size_classes.specs.declared.ClassFound.TheVariants.{Class, TooLarge}
 use Rattle.size_classes.specs.SlotSizes.{slot_size, last_size, Admissible}
 use Rattle.size_classes.specs.Class.{raised, fits, in_range, smallest_class, class_of}
 use Rattle.size_classes.proofs.RaisedLaws.{last_aligned}
@@ -24,9 +23,9 @@ pub record Smallest (sizes : List ℕ) (s a k : ℕ) : Type 0 where
   pub least : (j : ℕ) → j < k → s ≤ slot_size sizes j → slot_size sizes j % raised a ≡ 0 → ⊥
 
 -- what an answer says: the smallest class, or "size, or raised alignment, above" the last size
-abbrev pub Answer : List ℕ → ℕ → ℕ → ClassFound → Type 0
-Answer sizes s a (Class k) = (s ≤ last_size sizes) × (raised a ≤ last_size sizes) × Smallest sizes s a k
-Answer sizes s a TooLarge = (last_size sizes < s) ⊎ (last_size sizes < raised a)
+abbrev pub Answer : List ℕ → ℕ → ℕ → Option ℕ → Type 0
+Answer sizes s a (Some k) = (s ≤ last_size sizes) × (raised a ≤ last_size sizes) × Smallest sizes s a k
+Answer sizes s a None = (last_size sizes < s) ⊎ (last_size sizes < raised a)
 
 module _ (sizes : List ℕ) (ok : Admissible sizes) (s a : ℕ) where
   -- The last class fits every request in range.
@@ -76,23 +75,23 @@ same_class sizes s a j k p q =
     ]
 
 -- No second answer fits a request.
-pub one_answer : (sizes : List ℕ) (s a : ℕ) (r t : ClassFound) → Answer sizes s a r → Answer sizes s a t → r ≡ t
-one_answer sizes s a (Class j) (Class k) p q = ap Class (same_class sizes s a j k p.2 q.2)
-one_answer sizes s a (Class j) TooLarge p q = ⊎_elim (λ h. absurd (omega arith)) (λ h. absurd (omega arith)) q
-one_answer sizes s a TooLarge (Class k) p q = ⊎_elim (λ h. absurd (omega arith)) (λ h. absurd (omega arith)) p
-one_answer sizes s a TooLarge TooLarge p q = refl
+pub one_answer : (sizes : List ℕ) (s a : ℕ) (r t : Option ℕ) → Answer sizes s a r → Answer sizes s a t → r ≡ t
+one_answer sizes s a (Some j) (Some k) p q = ap Some (same_class sizes s a j k p.2 q.2)
+one_answer sizes s a (Some j) None p q = ⊎_elim (λ h. absurd (omega arith)) (λ h. absurd (omega arith)) q
+one_answer sizes s a None (Some k) p q = ⊎_elim (λ h. absurd (omega arith)) (λ h. absurd (omega arith)) p
+one_answer sizes s a None None p q = refl
 
 module _ (sizes : List ℕ) (ok : Admissible sizes) (s a : ℕ) where
   -- What fits a request is what the definition gives: with `answer`, both directions.
-  pub answer_is : (r : ClassFound) → Answer sizes s a r → class_of sizes s a ≡ r
+  pub answer_is : (r : Option ℕ) → Answer sizes s a r → class_of sizes s a ≡ r
   answer_is r p = one_answer sizes s a (class_of sizes s a) r (answer sizes ok s a) p
 
   -- What the definition gives fits the request.
-  pub is_answer : (r : ClassFound) → class_of sizes s a ≡ r → Answer sizes s a r
+  pub is_answer : (r : Option ℕ) → class_of sizes s a ≡ r → Answer sizes s a r
   is_answer r e = rw e at (answer sizes ok s a)
 
   -- A request is refused exactly where the size or the raised alignment is above the last size.
   pub too_large_exactly :
-      (class_of sizes s a ≡ TooLarge → (last_size sizes < s) ⊎ (last_size sizes < raised a)) ×
-      ((last_size sizes < s) ⊎ (last_size sizes < raised a) → class_of sizes s a ≡ TooLarge)
-  too_large_exactly = (is_answer TooLarge, answer_is TooLarge)
+      (class_of sizes s a ≡ None → (last_size sizes < s) ⊎ (last_size sizes < raised a)) ×
+      ((last_size sizes < s) ⊎ (last_size sizes < raised a) → class_of sizes s a ≡ None)
+  too_large_exactly = (is_answer None, answer_is None)

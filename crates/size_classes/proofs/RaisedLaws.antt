@@ -1,12 +1,13 @@
 -- The raised alignment: a power of two, the first that is not below the alignment. Assumes nothing.
 use mathlib.Core.List.{List}
-use mathlib.Core.Path.{◌≡◌, refl, ap}
-use Prim.Native.Nat.{ℕ, ◌%◌, ◌^◌, ◌≤◌, ◌<◌}
+use mathlib.Core.Path.{◌≡◌, refl, ap, sym, ◌∙◌}
+use Prim.Native.Nat.{ℕ, ◌+◌, ◌/◌, ◌%◌, ◌^◌, ◌≤◌, ◌<◌, max}
+use Rattle.std.specs.Int.{IsPowerOfTwo}
 use native.Mathlib.Decide.{dec_lt}
 use native.Mathlib.Omega.{arith}
 use lib.Dec.{leb}
 use lib.ListN.{length}
-use lib.Pow.{pow_pos, pow_mono, pow-lt}
+use lib.Pow.{pow_pos, pow_mono, pow-add, pow-lt}
 use borrow.Author.Tests.{leb-true, le-leb, lt-leb}
 use Rattle.laws.specs.First.{first}
 use Rattle.laws.proofs.FirstLaws.{first_is, first_holds, first_le}
@@ -29,6 +30,17 @@ unfolding raised
 raised_is a j h l u =
     ap (λ (n : ℕ). 2 ^ n)
     (first_is (λ i. leb a (2 ^ i)) 64 0 j (omega arith) (omega arith) (le-leb a (2 ^ j) l) (λ i z k. lt-leb a (2 ^ i) (u i k)))
+
+-- So is a power of two not below the alignment whose half is.
+pub raised_by_half : (a r : ℕ) → a ≤ 2 ^ 63 → IsPowerOfTwo r → a ≤ r → r / 2 < max 1 a → r ≡ raised a
+raised_by_half a r top power low high =
+    let k = power.0 in
+    let is : r ≡ 2 ^ k = power.1 in
+    let passed : ((i : ℕ) → i < k → 2 ^ i < a) =
+    (λ i h. omega (arith, is, high, pow_pos i, pow-add 2 i 1, pow_mono {i = i + 1} {j = k} (omega arith))) in
+    let few : k ≤ 64 =
+    elim (dec_lt 64 k) [ yes y ↦ absurd (omega (arith, top, passed 64 y)) | no y ↦ omega arith ] in
+    is ∙ sym (raised_is a k few (omega (arith, is, low)) passed)
 
 -- An alignment of at most 2 ^ 64 is not above its raised one.
 pub raised_ge : (a : ℕ) → a ≤ 2 ^ 64 → a ≤ raised a

@@ -1,4 +1,5 @@
 -- The slots of a span: how many there are, how long the span is, and that `slot_at` accepts exactly the starts of slots inside it. Assumes nothing.
+use Rattle.std.specs.Prelude.{Option, Some, None}
 use mathlib.Core.Bool.{and-false}
 use mathlib.Core.Path.{◌≡◌, refl, sym, ◌∙◌, ap}
 use Prim.Native.Nat.{ℕ, ◌*◌, ◌/◌, ◌%◌, ◌^◌, ◌≤◌, ◌<◌}
@@ -7,8 +8,6 @@ use native.Mathlib.Nat.{div-mul-le_self, div-add-mod', mul-div_cancel, mul-mod_l
 use native.Mathlib.Omega.{arith}
 use lib.Dec.{eqb}
 use borrow.Author.Tests.{eq-eqb, ne_eqb, lt-ltb, le-ltb}
-use Rattle.size_classes.specs.declared.SlotFound.{SlotFound}
-use Rattle.size_classes.specs.declared.SlotFound.TheVariants.{Slot, NoSlot}
 use Rattle.size_classes.specs.SlotSizes.{largest_slot}
 use Rattle.size_classes.specs.Slots.{most_slots, fewest_slots, slots_per_span, span_length, slot_offset, starts_slot, slot_at}
 
@@ -35,17 +34,17 @@ span_longest slot h =
 
 module _ (slot offset : ℕ) where
   -- A multiple of the slot whose quotient is below the number of slots is accepted.
-  pub slot_found_lem : offset % slot ≡ 0 → offset / slot < slots_per_span slot → slot_at slot offset ≡ Slot (offset / slot)
+  pub slot_found_lem : offset % slot ≡ 0 → offset / slot < slots_per_span slot → slot_at slot offset ≡ Some (offset / slot)
   unfolding slot_at starts_slot
   slot_found_lem m l = rw (eq-eqb (offset % slot) 0 m, lt-ltb (offset / slot) (slots_per_span slot) l)
 
   -- What is no multiple of the slot is refused.
-  pub between_slots : (offset % slot ≡ 0 → ⊥) → slot_at slot offset ≡ NoSlot
+  pub between_slots : (offset % slot ≡ 0 → ⊥) → slot_at slot offset ≡ None
   unfolding slot_at starts_slot
   between_slots m = rw (ne_eqb (offset % slot) 0 m)
 
   -- What is past the last slot is refused.
-  pub past_slots : slots_per_span slot ≤ offset / slot → slot_at slot offset ≡ NoSlot
+  pub past_slots : slots_per_span slot ≤ offset / slot → slot_at slot offset ≡ None
   unfolding slot_at starts_slot
   past_slots l = rw (le-ltb (offset / slot) (slots_per_span slot) l, and-false (eqb (offset % slot) 0))
 
@@ -55,9 +54,9 @@ pub record Starts (slot offset q : ℕ) : Type 0 where
   pub inside : q < slots_per_span slot
 
 -- what an answer says: the offset is the start of that slot, or of none
-abbrev pub SlotAnswer : ℕ → ℕ → SlotFound → Type 0
-SlotAnswer slot offset (Slot q) = Starts slot offset q
-SlotAnswer slot offset NoSlot = (q : ℕ) → Starts slot offset q → ⊥
+abbrev pub SlotAnswer : ℕ → ℕ → Option ℕ → Type 0
+SlotAnswer slot offset (Some q) = Starts slot offset q
+SlotAnswer slot offset None = (q : ℕ) → Starts slot offset q → ⊥
 
 module _ (slot offset : ℕ) (pos : 0 < slot) where
   -- A slot's start is a multiple of the slot.
@@ -81,19 +80,19 @@ module _ (slot offset : ℕ) (pos : 0 < slot) where
       ]
 
   -- No second answer fits an offset.
-  pub one_slot : (r t : SlotFound) → SlotAnswer slot offset r → SlotAnswer slot offset t → r ≡ t
-  one_slot (Slot p) (Slot q) g h = ap Slot (sym (start_quotient p g) ∙ start_quotient q h)
-  one_slot (Slot p) NoSlot g h = absurd (h p g)
-  one_slot NoSlot (Slot q) g h = absurd (g q h)
-  one_slot NoSlot NoSlot g h = refl
+  pub one_slot : (r t : Option ℕ) → SlotAnswer slot offset r → SlotAnswer slot offset t → r ≡ t
+  one_slot (Some p) (Some q) g h = ap Some (sym (start_quotient p g) ∙ start_quotient q h)
+  one_slot (Some p) None g h = absurd (h p g)
+  one_slot None (Some q) g h = absurd (g q h)
+  one_slot None None g h = refl
 
   -- An offset is answered with slot q exactly where it is the start of slot q, inside the span.
   pub accepts_exactly :
-      (q : ℕ) → (slot_at slot offset ≡ Slot q → Starts slot offset q) × (Starts slot offset q → slot_at slot offset ≡ Slot q)
-  accepts_exactly q = (λ e. rw e at slot_answer, one_slot (slot_at slot offset) (Slot q) slot_answer)
+      (q : ℕ) → (slot_at slot offset ≡ Some q → Starts slot offset q) × (Starts slot offset q → slot_at slot offset ≡ Some q)
+  accepts_exactly q = (λ e. rw e at slot_answer, one_slot (slot_at slot offset) (Some q) slot_answer)
 
   -- An offset is refused exactly where no slot inside the span starts at it.
   pub refuses_exactly :
-      (slot_at slot offset ≡ NoSlot → (q : ℕ) → Starts slot offset q → ⊥) ×
-      (((q : ℕ) → Starts slot offset q → ⊥) → slot_at slot offset ≡ NoSlot)
-  refuses_exactly = (λ e. rw e at slot_answer, one_slot (slot_at slot offset) NoSlot slot_answer)
+      (slot_at slot offset ≡ None → (q : ℕ) → Starts slot offset q → ⊥) ×
+      (((q : ℕ) → Starts slot offset q → ⊥) → slot_at slot offset ≡ None)
+  refuses_exactly = (λ e. rw e at slot_answer, one_slot (slot_at slot offset) None slot_answer)

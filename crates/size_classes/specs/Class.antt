@@ -1,8 +1,7 @@
 -- The class of a request, over any list of slot sizes. Assumes nothing.
+use Rattle.std.specs.Prelude.{Option, Some, None}
 use Rattle.std.specs.Prelude.{Bool, ◌&&◌, cond, List, ℕ, ◌+◌, ◌*◌, ◌%◌, ◌^◌, length, leb, eqb}
 use Rattle.laws.specs.First.{first}
-use Rattle.size_classes.specs.declared.ClassFound.{ClassFound}
-use Rattle.size_classes.specs.declared.ClassFound.TheVariants.{Class, TooLarge}
 use Rattle.size_classes.specs.SlotSizes.{slot_size, last_size, least_alignment}
 
 -- "alignment is raised to a power of two (0 becomes 1)"
@@ -21,8 +20,8 @@ smallest_class sizes size alignment = first (fits sizes size (raised alignment))
 unfoldable pub in_range : List ℕ → ℕ → ℕ → Bool
 in_range sizes size alignment = leb size (last_size sizes) && leb (raised alignment) (last_size sizes)
 
-unfoldable pub class_of : List ℕ → ℕ → ℕ → ClassFound
-class_of sizes size alignment = cond (in_range sizes size alignment) (Class (smallest_class sizes size alignment)) TooLarge
+unfoldable pub class_of : List ℕ → ℕ → ℕ → Option ℕ
+class_of sizes size alignment = cond (in_range sizes size alignment) (Some (smallest_class sizes size alignment)) None
 
 -- "entry b gives the class of sizes above 16b up to 16b+16"
 unfoldable pub lookup_entry : List ℕ → ℕ → ℕ

@@ -1,7 +1,6 @@
 -- The slots of a span, and the slot of an offset in it, by the slot size. Assumes nothing.
+use Rattle.std.specs.Prelude.{Option, Some, None}
 use Rattle.std.specs.Prelude.{Bool, ◌&&◌, cond, ℕ, ◌+◌, ◌-◌, ◌*◌, ◌/◌, ◌%◌, ◌^◌, min, max, eqb, ltb}
-use Rattle.size_classes.specs.declared.SlotFound.{SlotFound}
-use Rattle.size_classes.specs.declared.SlotFound.TheVariants.{Slot, NoSlot}
 use Rattle.size_classes.specs.SlotSizes.{largest_slot}
 
 -- the most slots of a span: 64 words of 64 bits
@@ -26,8 +25,8 @@ slot_offset slot q = q * slot
 unfoldable pub starts_slot : ℕ → ℕ → Bool
 starts_slot slot offset = eqb (offset % slot) 0 && ltb (offset / slot) (slots_per_span slot)
 
-unfoldable pub slot_at : ℕ → ℕ → SlotFound
-slot_at slot offset = cond (starts_slot slot offset) (Slot (offset / slot)) NoSlot
+unfoldable pub slot_at : ℕ → ℕ → Option ℕ
+slot_at slot offset = cond (starts_slot slot offset) (Some (offset / slot)) None
 
 -- "the source multiplies by the rounded-up quotient of 2^64 and the slot size, and keeps the part above 2^64"
 unfoldable pub reciprocal : ℕ → ℕ

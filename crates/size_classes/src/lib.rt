@@ -2,23 +2,55 @@
 // Which class serves a request is chosen in `class_choice`, by the table of `class_lookup`.
 #![tactic(auto)]
 
-ghost use Rattle.std.specs.Prelude.{◌≡◌, ◌<◌, ◌≤◌, ◌^◌};
-ghost use Rattle.size_classes.specs.SlotSizes.{slot_sizes, largest_slot};
+ghost use Rattle.std.specs.Prelude.{◌≡◌, ◌<◌, ◌≤◌, ◌^◌, length};
+ghost use Rattle.size_classes.specs.SlotSizes.{slot_sizes, slot_size, largest_slot, Admissible};
 ghost use Rattle.size_classes.specs.Class.{raised};
 ghost use Rattle.size_classes.specs.Slots.{slots_per_span, span_length, slot_at};
 
-// The class of a request, or that it is above the largest slot.
-#[derive(Clone, Copy)]
-pub enum ClassFound {
-    Class(u64),
-    TooLarge,
+use std::marker::Model;
+
+// Slot sizes that are lent: an admissible list, which a contract sees as that list.
+#[derive(Drop)]
+pub struct SlotSizes<'a> {
+    list: &'a [u64],
 }
 
-// The slot that starts at an offset in a span, or that none does.
-#[derive(Clone, Copy)]
-pub enum SlotFound {
-    Slot(u64),
-    NoSlot,
+impl<'a> Model for SlotSizes<'a> {
+    ghost use Rattle.std.specs.Prelude.{List, ℕ};
+    ghost use Rattle.size_classes.specs.SlotSizes.{Admissible};
+
+    ghost Value = { List ℕ };
+
+    ghost view = { λ s. s.list.now };
+
+    ghost invariant = { λ s. Admissible s.list.now };
+}
+
+impl<'a> SlotSizes<'a> {
+    pub fn new(list: &'a [u64]) -> Self
+        requires { Admissible list.now }
+        ensures { result ≡ list.now }
+    {
+        SlotSizes { list }
+    }
+
+    // How many classes there are.
+    pub fn classes(&self) -> u64
+        ensures count { result ≡ length self.now }
+        ensures admissible { Admissible self.now }
+    {
+        self.list.len() as u64
+    }
+
+    // The slot size of a class.
+    pub fn slot(&self, class: u64) -> u64
+        requires { class < length self.now }
+        ensures size { result ≡ slot_size self.now class }
+        ensures admissible { Admissible self.now }
+    {
+        let list = self.list;
+        list[class as usize]
+    }
 }
 
 const LARGEST_SLOT: u64 = 131072;
@@ -45,11 +77,7 @@ pub fn raise(alignment: u64) -> u64
     requires { alignment ≤ 2 ^ 63 }
     ensures { result ≡ raised alignment }
 {
-    let mut p: u64 = 1;
-    while p < alignment {
-        p *= 2;
-    }
-    p
+    alignment.next_power_of_two()
 }
 
 // How many slots a span has.
@@ -75,18 +103,18 @@ pub fn span_length(slot: u64) -> u64
     slots_per_span(slot) * slot
 }
 
-// The slot that starts at the offset.
-pub fn slot_at(slot: u64, offset: u64) -> SlotFound
+// The slot that starts at the offset, if one does.
+pub fn slot_at(slot: u64, offset: u64) -> Option<u64>
     requires { 0 < slot }
     ensures { result ≡ slot_at slot offset }
 {
     if offset % slot != 0 {
-        return SlotFound::NoSlot;
+        return None;
     }
     let q = offset / slot;
     if q < slots_per_span(slot) {
-        SlotFound::Slot(q)
+        Some(q)
     } else {
-        SlotFound::NoSlot
+        None
     }
 }

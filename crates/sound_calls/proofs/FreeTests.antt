@@ -1,10 +1,9 @@
 -- A free on a sound table, by its tests. Assumes nothing.
+use Rattle.std.specs.Prelude.{Option, Some, None}
 use mathlib.Core.Path.{◌≡◌, refl, sym, ap, ◌∙◌}
 use mathlib.Core.Bool.{Bool, true, false, cond, true≢false}
 use Prim.Native.Nat.{ℕ, ◌/◌, ◌<◌, ◌≤◌}
 use borrow.Author.Tests.{lt-ltb, le-ltb}
-use Rattle.size_classes.specs.declared.SlotFound.{SlotFound}
-use Rattle.size_classes.specs.declared.SlotFound.TheVariants.{Slot, NoSlot}
 use Rattle.size_classes.specs.SlotSizes.{slot_size}
 use Rattle.size_classes.specs.Slots.{starts_slot, slot_at}
 use Rattle.tables.specs.declared.ClassHeap.{ClassHeap}
@@ -54,28 +53,28 @@ module _ (t : Tables) (k : ClassHeap) (heap s offset q : ℕ) (state : BlockStat
 
 -- ---- the slot at an offset
 
-abbrev is_slot : SlotFound → Bool
-is_slot (Slot q) = true
-is_slot NoSlot = false
+abbrev is_slot : Option ℕ → Bool
+is_slot (Some q) = true
+is_slot None = false
 
-abbrev slot_in : SlotFound → ℕ
-slot_in (Slot q) = q
-slot_in NoSlot = 0
+abbrev slot_in : Option ℕ → ℕ
+slot_in (Some q) = q
+slot_in None = 0
 
 module _ (slot offset : ℕ) where
   slot_test : is_slot (slot_at slot offset) ≡ starts_slot slot offset
   unfolding slot_at
   slot_test = by_test (starts_slot slot offset) (offset / slot)
     where
-      by_test : (b : Bool) (q : ℕ) → is_slot (cond b (Slot q) NoSlot) ≡ b
+      by_test : (b : Bool) (q : ℕ) → is_slot (cond b (Some q) None) ≡ b
       by_test true q = refl
       by_test false q = refl
 
-  starts_not : slot_at slot offset ≡ NoSlot → starts_slot slot offset ≡ false
+  starts_not : slot_at slot offset ≡ None → starts_slot slot offset ≡ false
   starts_not e = sym slot_test ∙ ap is_slot e
 
   -- An offset that is answered with a slot starts it, and is its number by division.
-  pub starts_at : (q : ℕ) → slot_at slot offset ≡ Slot q → (starts_slot slot offset ≡ true) × (offset / slot ≡ q)
+  pub starts_at : (q : ℕ) → slot_at slot offset ≡ Some q → (starts_slot slot offset ≡ true) × (offset / slot ≡ q)
   unfolding slot_at
   starts_at q e = let r : starts_slot slot offset ≡ true = sym slot_test ∙ ap is_slot e in (r, ap slot_in (rw r at e))
 
@@ -100,11 +99,11 @@ module _ (g : Shape) (t : Tables) (heap s offset : ℕ) where
       unfolding class_heap
       slot_here = ap (λ (l : ClassHeap). l.slot) home
 
-      pub no_slot : (r : Answer) → r ≡ refusal 7 → slot_at k.slot offset ≡ NoSlot → ended r t ≡ free_sound g t heap s offset
+      pub no_slot : (r : Answer) → r ≡ refusal 7 → slot_at k.slot offset ≡ None → ended r t ≡ free_sound g t heap s offset
       unfolding free_sound names_slot
       no_slot r e z = rw (e, lt-ltb heap g.heaps hh, lt-ltb s t.used hs, ← slot_here, starts_not k.slot offset z)
 
-      pub at_slot : (q : ℕ) (o : Outcome) → slot_at k.slot offset ≡ Slot q → o ≡ free_block t k heap s offset q → o ≡ free_sound g t heap s offset
+      pub at_slot : (q : ℕ) (o : Outcome) → slot_at k.slot offset ≡ Some q → o ≡ free_block t k heap s offset q → o ≡ free_sound g t heap s offset
       unfolding free_sound names_slot freed state_of
       at_slot q o z e =
           let w = starts_at k.slot offset q z in

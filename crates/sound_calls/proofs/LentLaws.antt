@@ -1,4 +1,5 @@
 -- A lent table works for each class of each of its heaps. Assumes nothing.
+use Rattle.std.specs.Prelude.{Option, Some, None}
 use mathlib.Core.Path.{◌≡◌}
 use mathlib.Core.List.{List}
 use Prim.Native.Nat.{ℕ, ◌<◌, ◌≤◌}
@@ -12,7 +13,6 @@ use Rattle.tables.specs.Cells.{Tables, class_at, owner_at}
 use Rattle.span.specs.Room.{SpanCells}
 use Rattle.sound.specs.Sound.{home_of}
 use Rattle.filled_spans.proofs.SpanValues.{filled_cells}
-use Rattle.size_classes.specs.declared.SlotFound.TheVariants.{Slot}
 use Rattle.size_classes.specs.SlotSizes.{least_alignment}
 use Rattle.size_classes.specs.Slots.{slots_per_span, slot_at}
 use Rattle.size_classes.proofs.SlotSizeLaws.{size_least}
@@ -83,7 +83,7 @@ module _ {g : Shape} {t : Tables} (x : Lent g t) where
       home_slots = rw e
 
       -- The slot that an offset starts is a block of it.
-      pub lent_block : (offset q : ℕ) → slot_at k.slot offset ≡ Slot q → Block g.spans k t s q
+      pub lent_block : (offset q : ℕ) → slot_at k.slot offset ≡ Some q → Block g.spans k t s q
       lent_block offset q z =
           record {
             working = lent_working lent_owner lent_class e;

@@ -11,7 +11,6 @@ ghost use Rattle.calls.specs.Calls.{allocate_sound, free_sound};
 ghost use Rattle.sound_calls.specs.Lent.{Lent, Block, free_block};
 
 use calls::Answer;
-use size_classes::{ClassFound, SlotFound};
 use span::BlockState;
 use tables::ClassHeap;
 
@@ -72,8 +71,8 @@ pub fn allocate_sound(
         return refusal(4);
     }
     match class_choice::class_of(sizes, lookup, size, alignment) {
-        ClassFound::TooLarge => refusal(5),
-        ClassFound::Class(class) => {
+        None => refusal(5),
+        Some(class) => {
             let k = tables::class_heap(sizes, heap, class);
             heap::alloc_small(bits, records, entries, heads, used, spans, k, words)
         }
@@ -134,7 +133,7 @@ pub fn free_sound(
     let owner = tables::field(records, span, OWNER);
     let k = tables::class_heap(sizes, owner, tables::field(records, span, CLASS));
     match size_classes::slot_at(k.slot, offset) {
-        SlotFound::NoSlot => refusal(7),
-        SlotFound::Slot(q) => free_block(bits, records, entries, heads, k, heap, span, offset, q),
+        None => refusal(7),
+        Some(q) => free_block(bits, records, entries, heads, k, heap, span, offset, q),
     }
 }

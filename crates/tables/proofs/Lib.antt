@@ -1,5 +1,6 @@
 pub mod Tiny
 pub mod Worked
 pub mod CellLaws
+pub mod LentLaws
 pub mod MagazineCells
 pub mod StatedLaws

@@ -2,3 +2,4 @@ pub mod Shape
 pub mod Cells
 pub mod Fresh
 pub mod Stated
+pub mod Lent

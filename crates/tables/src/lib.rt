@@ -2,9 +2,100 @@
 #![tactic(auto)]
 
 ghost use Rattle.std.specs.Prelude.{◌≡◌, ℕ, ◌+◌, ◌^◌, ◌<◌, length, get_or, set};
-ghost use Rattle.size_classes.specs.SlotSizes.{Admissible};
 ghost use Rattle.tables.specs.Shape.{shape, most_heaps, row_of, base_of, class_heap};
+ghost use Rattle.tables.specs.Lent.{cells, SameLent};
 ghost use Rattle.tables.specs.Cells.{bitmap_cell, span_cell, head_cell, entry_of, entry_span, entry_slot};
+
+use size_classes::SlotSizes;
+use std::marker::Model;
+
+// The tables that a call is lent, and how many spans are used.
+#[derive(Drop)]
+pub struct LentTables<'a> {
+    pub bits: &'a mut [u64],
+    pub spans: &'a mut [u64],
+    pub entries: &'a mut [u64],
+    pub heads: &'a mut [u64],
+    pub used: &'a mut u64,
+}
+
+impl<'a> LentTables<'a> {
+    // The tables, to be read.
+    pub fn view(&self) -> TablesView
+        ensures { result ≡ cells self.now }
+    {
+        TablesView {
+            bits: self.bits,
+            spans: self.spans,
+            entries: self.entries,
+            heads: self.heads,
+            used: *self.used,
+        }
+    }
+
+    // One of the tables, to be read.
+    pub fn bits(&self) -> &[u64]
+        ensures { result.now ≡ self.now.bits.now }
+    {
+        self.bits
+    }
+
+    pub fn spans(&self) -> &[u64]
+        ensures { result.now ≡ self.now.spans.now }
+    {
+        self.spans
+    }
+
+    pub fn entries(&self) -> &[u64]
+        ensures { result.now ≡ self.now.entries.now }
+    {
+        self.entries
+    }
+
+    pub fn heads(&self) -> &[u64]
+        ensures { result.now ≡ self.now.heads.now }
+    {
+        self.heads
+    }
+}
+
+// The tables that a call only reads, which a contract sees as their cells.
+#[derive(Drop)]
+pub struct TablesView<'a> {
+    pub bits: &'a [u64],
+    pub spans: &'a [u64],
+    pub entries: &'a [u64],
+    pub heads: &'a [u64],
+    pub used: u64,
+}
+
+impl<'a> Model for TablesView<'a> {
+    ghost use Rattle.tables.specs.Cells.{Tables, tables};
+
+    ghost Value = { Tables };
+
+    ghost view = { λ v. tables v.bits.now v.spans.now v.entries.now v.heads.now v.used };
+}
+
+// What a table is made for: slot sizes, the most spans of any table, and this table's heaps and spans.
+#[derive(Drop)]
+pub struct Shape<'a> {
+    pub sizes: &'a SlotSizes<'a>,
+    pub most: u64,
+    pub heaps: u64,
+    pub spans: u64,
+}
+
+impl<'a> Model for Shape<'a> {
+    ghost use Rattle.std.specs.Prelude.{◌≤◌, ◌^◌};
+    ghost use Rattle.tables.specs.Shape.{Shape, shape};
+
+    ghost Value = { Shape };
+
+    ghost view = { λ g. shape g.sizes.now g.most g.heaps g.spans };
+
+    ghost invariant = { λ g. g.most ≤ 2 ^ 32 };
+}
 
 // One class of one heap: its numbers, the row of its list heads and the base of its magazine.
 #[derive(Clone, Copy)]
@@ -139,40 +230,46 @@ pub fn entry_slot(e: u64) -> u64
 }
 
 // The row of heads of a class of a heap.
-fn row_of(sizes: &[u64], heap: u64, class: u64) -> u64
-    requires admissible { Admissible sizes.now }
-    requires heap_lt_most_heaps { (heap < most_heaps) × (class < length sizes.now) }
+fn row_of(sizes: &SlotSizes, heap: u64, class: u64) -> u64
+    requires { (heap < most_heaps) × (class < length sizes.now) }
     ensures { (most heaps spans : ℕ) → result ≡ row_of (shape sizes.now most heaps spans) heap class }
 {
-    heap * sizes.len() as u64 + class
+    heap * sizes.classes() + class
 }
 
 // Where the magazine of a class of a heap begins among all entries.
-fn base_of(sizes: &[u64], heap: u64, class: u64) -> u64
-    requires admissible { Admissible sizes.now }
-    requires heap_lt_most_heaps { (heap < most_heaps) × (class < length sizes.now) }
+fn base_of(sizes: &SlotSizes, heap: u64, class: u64) -> u64
+    requires { (heap < most_heaps) × (class < length sizes.now) }
     ensures { (most heaps spans : ℕ) → result ≡ base_of (shape sizes.now most heaps spans) heap class }
 {
     heap * magazine_layout::entries_per_heap(sizes) + magazine_layout::magazine_offset(sizes, class)
 }
 
-// One class of one heap, by the lent slot sizes.
-pub fn class_heap(sizes: &[u64], heap: u64, class: u64) -> ClassHeap
-    requires admissible { Admissible sizes.now }
-    requires heap_lt_most_heaps { (heap < most_heaps) × (class < length sizes.now) }
-    ensures { (most heaps spans : ℕ) → result ≡ class_heap (shape sizes.now most heaps spans) heap class }
+// One class of one heap, where its row and the base of its magazine are at hand.
+pub fn class_at(sizes: &SlotSizes, heap: u64, class: u64, row: u64, base: u64) -> ClassHeap
+    requires { class < length sizes.now }
+    ensures { (most heaps n : ℕ) → row ≡ row_of (shape sizes.now most heaps n) heap class → base ≡ base_of (shape sizes.now most heaps n) heap class → result ≡ class_heap (shape sizes.now most heaps n) heap class }
 {
-    let at = class as usize;
-    let slot = sizes[at];
+    let slot = sizes.slot(class);
     let capacity = magazine_layout::capacity_for(slot);
     ClassHeap {
-        class: class,
+        class,
         owner: heap,
-        slot: slot,
+        slot,
         slots: size_classes::slots_per_span(slot),
-        capacity: capacity,
+        capacity,
         low: magazine_layout::low_water_for(capacity),
-        row: row_of(sizes, heap, class),
-        base: base_of(sizes, heap, class),
+        row,
+        base,
     }
+}
+
+// One class of one heap, by the lent slot sizes.
+pub fn class_heap(sizes: &SlotSizes, heap: u64, class: u64) -> ClassHeap
+    requires { (heap < most_heaps) × (class < length sizes.now) }
+    ensures { (most heaps spans : ℕ) → result ≡ class_heap (shape sizes.now most heaps spans) heap class }
+{
+    let row = row_of(sizes, heap, class);
+    let base = base_of(sizes, heap, class);
+    class_at(sizes, heap, class, row, base)
 }

@@ -3,8 +3,8 @@ use mathlib.Core.Path.{sym, ap, ◌∙◌}
 use Rattle.leaves.specs.Numbers.{class_number}
 use Rattle.leaves.proofs.laggersten_leaf_class.Goals as goal
 
-pub returns-in-Class : goal.returns-in-Class
-returns-in-Class c = ap class_number (sym c.in-Class.is ∙ c.from_layout-found.ensures)
+pub returns-in-Some : goal.returns-in-Some
+returns-in-Some c = ap class_number (sym c.in-Some.is ∙ c.from_layout-found.ensures)
 
-pub returns-in-TooLarge : goal.returns-in-TooLarge
-returns-in-TooLarge c = ap class_number (sym c.in-TooLarge.is ∙ c.from_layout-found.ensures)
+pub returns-in-None : goal.returns-in-None
+returns-in-None c = ap class_number (sym c.in-None.is ∙ c.from_layout-found.ensures)

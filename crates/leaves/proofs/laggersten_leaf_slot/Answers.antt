@@ -3,8 +3,8 @@ use mathlib.Core.Path.{sym, ap, ◌∙◌}
 use Rattle.leaves.specs.Numbers.{slot_number}
 use Rattle.leaves.proofs.laggersten_leaf_slot.Goals as goal
 
-pub returns-in-Slot : goal.returns-in-Slot
-returns-in-Slot c = ap slot_number (sym c.in-Slot.is ∙ c.slot_at-found.ensures)
+pub returns-in-Some : goal.returns-in-Some
+returns-in-Some c = ap slot_number (sym c.in-Some.is ∙ c.slot_at-found.ensures)
 
-pub returns-in-NoSlot : goal.returns-in-NoSlot
-returns-in-NoSlot c = ap slot_number (sym c.in-NoSlot.is ∙ c.slot_at-found.ensures)
+pub returns-in-None : goal.returns-in-None
+returns-in-None c = ap slot_number (sym c.in-None.is ∙ c.slot_at-found.ensures)

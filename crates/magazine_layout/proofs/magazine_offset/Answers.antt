@@ -1,4 +1,4 @@
--- `magazine_layout::magazine_offset` meets its contract. The loop's invariant: the sum is the offset of class j. The measure is the classes left.
+-- `magazine_layout::magazine_offset` meets its contract. The loop's invariant: the sum is the offset of the class.
 -- Assumes nothing.
 use mathlib.Core.List.{List}
 use mathlib.Core.Path.{◌≡◌, sym, ◌∙◌, ap}
@@ -32,21 +32,22 @@ unfolding most_capacity most_classes
 small sizes c offset j r ok h e s =
     omega (arith, e, s.is, s.within, capacity_most (slot_size sizes j), offset_small sizes ok j (omega (arith, s.within)))
 
-pub loop-j-init : goal.loop-j-init
-loop-j-init c = record { within = omega arith; is = sym (offset_first _) }
+pub loop-class-init : goal.loop-class-init
+loop-class-init c = record { within = omega arith; is = sym (offset_first _) }
 
 pub capacity_for-offset-requires : goal.capacity_for-offset-requires
-capacity_for-offset-requires c = c.requires.admissible.positive _ (omega arith)
+capacity_for-offset-requires c = let l = c.slot.ensures in rw l.size (l.admissible.positive _ (omega arith))
 
 pub overflow_add-offset : goal.overflow_add-offset
 overflow_add-offset c =
-    omega (arith, small _ _ _ _ _ c.requires.admissible c.requires.c_in_bounds c.capacity_for-offset.ensures c.loop-j.invariant)
+    let l = c.slot.ensures in
+    omega (arith, small _ _ _ _ _ l.admissible c.requires (rw l.size at c.capacity_for-offset.ensures) c.loop-class.invariant)
 
-pub loop-j-preserved : goal.loop-j-preserved
-loop-j-preserved c = more _ _ _ _ _ (omega arith) c.capacity_for-offset.ensures c.loop-j.invariant
+pub loop-class-preserved : goal.loop-class-preserved
+loop-class-preserved c = more _ _ _ _ _ (omega arith) (rw c.slot.ensures.size at c.capacity_for-offset.ensures) c.loop-class.invariant
 
 pub returns : goal.returns
 returns c =
-    let s = c.loop-j.invariant in
-    let e : c.loop-j.j ≡ c.args.c = omega arith in
+    let s = c.loop-class.invariant in
+    let e : c.loop-class.class ≡ c.args.c = omega arith in
     s.is ∙ ap (magazine_offset _) e

@@ -25,7 +25,7 @@ class_heap-k-requires c =
     let h = c.if-heap-heaps.false in
     record {
       admissible = x.sizes;
-      heap_lt_most_heaps = (lent_heaps x (omega (arith, h)), found_class _ x.sizes _ _ _ (sym c.in-Class.ensures));
+      heap_lt_most_heaps = (lent_heaps x (omega (arith, h)), found_class _ x.sizes _ _ _ (sym c.in-Some.ensures));
     }
 
 pub alloc_small-requires : goal.alloc_small-requires
@@ -34,7 +34,7 @@ alloc_small-requires c =
     let a = c.args in
     let x = c.requires.by_index.1 in
     let hh = c.if-heap-heaps.false in
-    let hc = found_class _ x.sizes _ _ _ (sym c.in-Class.ensures) in
+    let hc = found_class _ x.sizes _ _ _ (sym c.in-Some.ensures) in
     let k = c.class_heap-k.ensures c.requires.by_index.0 a.heaps a.spans in
     record {
       working = lent_working x (omega (arith, hh)) hc k;
@@ -42,23 +42,23 @@ alloc_small-requires c =
       capacity_in_bounds = lent_words x (omega (arith, hh)) hc k a.words.now (omega (arith, c.if-words-lt-WORDS_NEEDED.false));
     }
 
-pub returns-in-TooLarge : goal.returns-in-TooLarge
+pub returns-in-None : goal.returns-in-None
 unfolding words_needed
-returns-in-TooLarge c =
+returns-in-None c =
     let a = c.args in
-    let r = c.refusal-in-TooLarge.ensures in
+    let r = c.refusal-in-None.ensures in
     let h = c.if-heap-heaps.false in
     let enough = c.if-words-lt-WORDS_NEEDED.false in
-    let e = sym c.in-TooLarge.ensures in
+    let e = sym c.in-None.ensures in
     λ most. too_large_lem (shape a.sizes.now most a.heaps a.spans) (tables a.bits.now a.records.now a.entries.now a.heads.now a.used.now) a.heap a.size a.alignment a.words.now (omega (arith, h)) (omega (arith, enough)) _ r e
 
-pub returns-in-Class : goal.returns-in-Class
+pub returns-in-Some : goal.returns-in-Some
 unfolding words_needed
-returns-in-Class c =
+returns-in-Some c =
     let a = c.args in
     let h = c.if-heap-heaps.false in
     let l = c.if-words-lt-WORDS_NEEDED.false in
-    let e = sym c.in-Class.ensures in
+    let e = sym c.in-Some.ensures in
     let k = c.class_heap-k.ensures in
     let done = c.alloc_small.ensures in
     λ most. in_class_lem (shape a.sizes.now most a.heaps a.spans) (tables a.bits.now a.records.now a.entries.now a.heads.now a.used.now) a.heap a.size a.alignment a.words.now (omega (arith, h)) (omega (arith, l)) _ _ _ e (k most a.heaps a.spans) done

@@ -46,28 +46,28 @@ free_block-requires c =
     let l = c.if-span-used.false in
     let a = c.args in
     let k = home_here (shape a.sizes.now p.0 a.heaps a.spans) (tables a.bits.now a.records.now a.entries.now a.heads.now a.used) a.span (c.class_heap-k.ensures p.0 a.heaps a.spans) c.field-owner.ensures c.field.ensures in
-    (a.spans, a.used, lent_block p.1 (omega (arith, l)) k _ _ (sym c.in-Slot.ensures))
+    (a.spans, a.used, lent_block p.1 (omega (arith, l)) k _ _ (sym c.in-Some.ensures))
 
-pub returns-in-NoSlot : goal.returns-in-NoSlot
-returns-in-NoSlot c =
+pub returns-in-None : goal.returns-in-None
+returns-in-None c =
     let a = c.args in
-    let r = c.refusal-in-NoSlot.ensures in
+    let r = c.refusal-in-None.ensures in
     let h = c.if-heap-heaps.false in
     let l = c.if-span-used.false in
     let k = c.class_heap-k.ensures in
     let owner = c.field-owner.ensures in
     let class = c.field.ensures in
-    let z = sym c.in-NoSlot.ensures in
+    let z = sym c.in-None.ensures in
     λ most. no_slot (shape a.sizes.now most a.heaps a.spans) (tables a.bits.now a.records.now a.entries.now a.heads.now a.used) a.heap a.span a.offset (omega (arith, h)) (omega (arith, l)) _ (home_here (shape a.sizes.now most a.heaps a.spans) (tables a.bits.now a.records.now a.entries.now a.heads.now a.used) a.span (k most a.heaps a.spans) owner class) _ r z
 
-pub returns-in-Slot : goal.returns-in-Slot
-returns-in-Slot c =
+pub returns-in-Some : goal.returns-in-Some
+returns-in-Some c =
     let a = c.args in
     let h = c.if-heap-heaps.false in
     let l = c.if-span-used.false in
     let k = c.class_heap-k.ensures in
     let owner = c.field-owner.ensures in
     let class = c.field.ensures in
-    let z = sym c.in-Slot.ensures in
+    let z = sym c.in-Some.ensures in
     let done = c.free_block.ensures in
     λ most. at_slot (shape a.sizes.now most a.heaps a.spans) (tables a.bits.now a.records.now a.entries.now a.heads.now a.used) a.heap a.span a.offset (omega (arith, h)) (omega (arith, l)) _ (home_here (shape a.sizes.now most a.heaps a.spans) (tables a.bits.now a.records.now a.entries.now a.heads.now a.used) a.span (k most a.heaps a.spans) owner class) _ _ z (done a.used)

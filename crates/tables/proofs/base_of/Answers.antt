@@ -10,16 +10,16 @@ use Rattle.tables.proofs.base_of.Goals as goal
 pub overflow_mul-result : goal.overflow_mul-result
 unfolding most_heaps most_classes most_capacity
 overflow_mul-result c =
-    let most = bases_small _ {heaps = c.args.heap} c.requires.admissible (omega (arith, c.requires.heap_lt_most_heaps)) in
-    rw c.entries_per_heap.ensures (omega (arith, most))
+    let most = bases_small _ {heaps = c.args.heap} c.entries_per_heap.ensures.admissible (omega (arith, c.requires)) in
+    rw c.entries_per_heap.ensures.entries (omega (arith, most))
 
 pub overflow_add-result : goal.overflow_add-result
 unfolding most_heaps most_classes most_capacity
 overflow_add-result c =
-    let most = bases_small _ {heaps = c.args.heap} c.requires.admissible (omega (arith, c.requires.heap_lt_most_heaps)) in
-    let last = offset_small _ c.requires.admissible c.args.class (omega (arith, c.requires.heap_lt_most_heaps)) in
-    rw (c.entries_per_heap.ensures, c.magazine_offset.ensures) (omega (arith, most, last))
+    let most = bases_small _ {heaps = c.args.heap} c.entries_per_heap.ensures.admissible (omega (arith, c.requires)) in
+    let last = offset_small _ c.entries_per_heap.ensures.admissible c.args.class (omega (arith, c.requires)) in
+    rw (c.entries_per_heap.ensures.entries, c.magazine_offset.ensures) (omega (arith, most, last))
 
 pub returns : goal.returns
 unfolding base_of
-returns c most heaps spans = rw (c.entries_per_heap.ensures, c.magazine_offset.ensures)
+returns c most heaps spans = rw (c.entries_per_heap.ensures.entries, c.magazine_offset.ensures)

@@ -1,5 +1,4 @@
 -- `tables::row_of` meets its contract. Assumes nothing.
-use mathlib.Core.Path.{refl}
 use native.Mathlib.Omega.{arith}
 use Rattle.size_classes.specs.SlotSizes.{most_classes}
 use Rattle.tables.specs.Shape.{most_heaps, row_of}
@@ -8,12 +7,12 @@ use Rattle.tables.proofs.row_of.Goals as goal
 
 pub overflow_mul-result : goal.overflow_mul-result
 unfolding most_heaps most_classes
-overflow_mul-result c = omega (arith, rows_small _ {heaps = c.args.heap} c.requires.admissible (omega (arith, c.requires.heap_lt_most_heaps)))
+overflow_mul-result c = rw c.classes.ensures.count (omega (arith, rows_small _ {heaps = c.args.heap} c.classes.ensures.admissible (omega (arith, c.requires))))
 
 pub overflow_add-result : goal.overflow_add-result
 unfolding most_heaps most_classes
-overflow_add-result c = omega (arith, rows_small _ {heaps = c.args.heap} c.requires.admissible (omega (arith, c.requires.heap_lt_most_heaps)), c.requires.admissible.few)
+overflow_add-result c = rw c.classes.ensures.count (omega (arith, rows_small _ {heaps = c.args.heap} c.classes.ensures.admissible (omega (arith, c.requires)), c.classes.ensures.admissible.few))
 
 pub returns : goal.returns
 unfolding row_of
-returns c most heaps spans = refl
+returns c most heaps spans = rw c.classes.ensures.count
