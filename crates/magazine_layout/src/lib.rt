@@ -16,14 +16,7 @@ pub fn capacity_for(slot: u64) -> u64
     requires { 0 < slot }
     ensures { result ≡ capacity_for slot }
 {
-    let entries = MAGAZINE_BYTES / slot;
-    if entries < LEAST_CAPACITY {
-        LEAST_CAPACITY
-    } else if MOST_CAPACITY < entries {
-        MOST_CAPACITY
-    } else {
-        entries
-    }
+    (MAGAZINE_BYTES / slot).clamp(LEAST_CAPACITY, MOST_CAPACITY)
 }
 
 // The count at which a magazine is refilled.
@@ -39,12 +32,9 @@ pub fn magazine_offset(sizes: &[u64], c: u64) -> u64
     requires c_in_bounds { c ≤ length sizes.now }
     ensures { result ≡ magazine_offset sizes.now c }
 {
-    let classes = c as usize;
-    let mut offset: u64 = 0;
-    let mut j = 0;
-    while j < classes {
-        offset += capacity_for(sizes[j]);
-        j += 1;
+    let mut offset = 0;
+    for slot in &sizes[..c as usize] {
+        offset += capacity_for(*slot);
     }
     offset
 }
