@@ -1,7 +1,7 @@
 // Class choice: which class serves a request, by the lookup table and then by alignment.
 #![tactic(auto)]
 
-ghost use Rattle.std.specs.Prelude.{◌≡◌, ◌<◌, max, get_or};
+ghost use Rattle.std.specs.Prelude.{◌≡◌, ◌<◌, get_or};
 ghost use Rattle.size_classes.specs.SlotSizes.{slot_sizes};
 ghost use Rattle.size_classes.specs.Class.{class_of, lookup_entries};
 ghost use Rattle.class_lookup.specs.Lookup.{ClassTables};
@@ -11,25 +11,11 @@ use size_classes::ClassFound;
 
 const LEAST_ALIGNMENT: u64 = 16;
 
-// The larger of two numbers.
-fn larger(x: u64, y: u64) -> u64
-    ensures { result ≡ max x y }
-{
-    if x < y { y } else { x }
-}
-
 // The bucket of the lookup table that a size falls in.
 fn bucket(size: u64) -> u64
     ensures { result ≡ bucket_of size }
 {
-    (larger(size, LEAST_ALIGNMENT) - 1) / LEAST_ALIGNMENT
-}
-
-// A byte as a number of 64 bits.
-fn wide(x: u8) -> u64
-    ensures { result ≡ x }
-{
-    x as u64
+    (size.max(LEAST_ALIGNMENT) - 1) / LEAST_ALIGNMENT
 }
 
 // Entry b of the lent lookup table.
@@ -37,20 +23,22 @@ fn entry(lookup: &[u8; 8192], b: u64) -> u64
     requires { b < lookup_entries }
     ensures { result ≡ get_or lookup.now b 0 }
 {
-    let at = b as usize;
-    wide(lookup[at])
+    u64::from(lookup[b as usize])
 }
 
-// The first class from `class` on whose slot is a multiple of the alignment.
+// The first class from `class` on whose slot is a multiple of the alignment. The last slot is one.
+#[tactic(auto, using(crate::proofs::ChoiceLaws::found_at, crate::proofs::ChoiceLaws::found_last))]
 fn aligned_from(sizes: &[u64], alignment: u64, class: u64) -> u64
     requires { Search sizes.now alignment class }
     ensures { result ≡ aligned_from sizes.now alignment class }
 {
-    let mut k = class as usize;
-    while sizes[k] % alignment != 0 {
-        k += 1;
+    let last = sizes.len() as u64 - 1;
+    for k in class..last {
+        if sizes[k as usize] % alignment == 0 {
+            return k;
+        }
     }
-    k as u64
+    last
 }
 
 // The class of a request, over lent slot sizes and their lookup table.
@@ -71,7 +59,7 @@ pub fn class_of(sizes: &[u64], lookup: &[u8; 8192], size: u64, alignment: u64) -
         return ClassFound::Class(class);
     }
     let raised = size_classes::raise(alignment);
-    let start = entry(lookup, bucket(larger(size, raised)));
+    let start = entry(lookup, bucket(size.max(raised)));
     let class = aligned_from(sizes, raised, start);
     ClassFound::Class(class)
 }
