@@ -117,11 +117,8 @@ pub fn clear_pending(bits: &mut [u64], s: u64)
     requires { WordCells bits.old s }
     ensures { (p e h : List ℕ) (u : ℕ) → table bits.new p e h u ≡ clear_pending (table bits.old p e h u) s }
 {
-    put_cells(
-        bits,
-        tables::bitmap_cell(s, REMOTE_SUMMARY),
-        &[0; REMOTE_CELLS],
-    );
+    let from = tables::bitmap_cell(s, REMOTE_SUMMARY);
+    put_cells(bits, from, &[0; REMOTE_CELLS]);
 }
 
 // A free of slot q of span s by another heap.
