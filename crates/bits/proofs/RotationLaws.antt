@@ -5,7 +5,7 @@ use Prim.Native.Nat.{ℕ, zero, suc, ◌+◌, ◌-◌, ◌*◌, ◌/◌, ◌%◌
 use native.Mathlib.Nat.{mod-one, div-one, mod-lt, mod-eq_of_lt, div-eq_of_lt, eq-zero-or-pos, le-mul_of_pos_right}
 use native.Mathlib.Omega.{arith}
 use lib.Arith.{digits_lt}
-use lib.Pow.{pow_pos, pow-add, split, shr_lt, ones_split, ones_lt, low, high_ones}
+use lib.Pow.{pow_pos, pow-add, split, shr_lt}
 use lib.Bits.{bit_or, or_shifted, or_shifted_r, or_self}
 use lib.Count.{ones, ones_cat}
 use Rattle.std.specs.Int.{w64, rotate_right, rotate_left}
@@ -13,16 +13,6 @@ use Rattle.laws.specs.Word.{bit_at}
 use Rattle.laws.proofs.WordLaws.{shl_mod}
 use Rattle.laws.proofs.BitLaws.{lt_or_le, bit_shr, bit_cat_low, bit_cat_high, bit_mod}
 use Rattle.bits.specs.Rotated.{rotated_right, rotated_left}
-
--- `u64::MAX << k`.
-pub ones_shl : (k : ℕ) → k < 64 → ((2 ^ 64 - 1) * 2 ^ k) % 2 ^ 64 ≡ 2 ^ 64 - 2 ^ k
-ones_shl k h =
-    let j : ℕ = 64 - k in
-    let e : j + k ≡ 64 = omega arith in
-    let f : k + j ≡ 64 = omega arith in
-    ap (λ (z : ℕ). ((2 ^ 64 - 1) * 2 ^ k) % 2 ^ z) (sym e) ∙ shl_mod (2 ^ 64 - 1) k j
-    ∙ ap (λ (z : ℕ). z * 2 ^ k) (ap (λ (z : ℕ). (2 ^ z - 1) % 2 ^ j) (sym f) ∙ ap (λ (z : ℕ). z % 2 ^ j) (ones_split k j) ∙ low (2 ^ k - 1) j (ones_lt j))
-    ∙ sym (high_ones j k) ∙ ap (λ (z : ℕ). 2 ^ z - 2 ^ k) e
 
 -- The 64 - k high bits of a word.
 low_end : (x k : ℕ) → x < 2 ^ 64 → k < 64 → x / 2 ^ k < 2 ^ (64 - k)

@@ -15,6 +15,7 @@ pub fn count(x: u64) -> u64
 }
 
 // Whether bit i of x is set.
+#[tactic(auto, using(laws::proofs::BitLaws::test_is))]
 pub fn test_bit(x: u64, i: u64) -> bool
     requires { i < 64 }
     ensures { result ≡ is_set x i }
@@ -23,6 +24,7 @@ pub fn test_bit(x: u64, i: u64) -> bool
 }
 
 // x with bit i set.
+#[tactic(auto, using(laws::proofs::BitLaws::set_is))]
 pub fn set_bit(x: u64, i: u64) -> u64
     requires { i < 64 }
     ensures { result ≡ set_bit x i }
@@ -31,6 +33,7 @@ pub fn set_bit(x: u64, i: u64) -> u64
 }
 
 // x with bit i clear.
+#[tactic(auto, using(laws::proofs::BitLaws::clear_is))]
 pub fn clear_bit(x: u64, i: u64) -> u64
     requires { i < 64 }
     ensures { result ≡ clear_bit x i }

@@ -1,19 +1,20 @@
 -- The words of a fresh span: each bit, and how the code fills them. Assumes nothing.
-use mathlib.Core.Path.{◌≡◌, refl, sym, ap, ap₂, ◌∙◌}
+use mathlib.Core.Path.{◌≡◌, refl, sym, ap, ◌∙◌}
 use mathlib.Core.List.{List}
 use mathlib.Core.Logic.{⊎_elim}
-use Prim.Native.Nat.{ℕ, zero, suc, ◌+◌, ◌-◌, ◌*◌, ◌/◌, ◌%◌, ◌^◌, ◌≤◌, ◌<◌, min}
-use native.Mathlib.Nat.{add-zero, sub-zero}
+use Prim.Native.Nat.{ℕ, zero, suc, ◌-◌, ◌*◌, ◌/◌, ◌%◌, ◌^◌, ◌≤◌, ◌<◌, min}
+use native.Mathlib.Nat.{sub-zero}
 use native.Mathlib.Omega.{arith}
 use lib.Dec.{lit<}
+use Rattle.std.proofs.lemmas.Nat.Bits.{bit_at_mask_below, bit_at_mask_inside}
 use lib.ListN.{length, get_or, set, length-set, replicate, get_or-replicate, take, drop, length-take, length-drop, length-append, length-replicate, get_or-append}
 use lib.Seq.{ext_get_or}
 use borrow.Rule.Slice.PartMut.{put_mid}
 use Rattle.std.proofs.lemmas.List.{get_or-take, get_or-append_right}
-use lib.Pow.{pow_pos, pow_mono, pow-sub-lt, high_ones}
+use lib.Pow.{pow_pos, pow_mono, pow-sub-lt}
 use Rattle.laws.specs.Word.{all_ones, bit_at}
 use Rattle.laws.proofs.CellLaws.{set_at}
-use Rattle.laws.proofs.BitLaws.{lt_or_le, bit_zero, bit_ones, bit_cat_low, bit_cat_high}
+use Rattle.laws.proofs.BitLaws.{lt_or_le}
 use Rattle.occupancy.specs.Occupied.{fresh_words}
 
 -- A fresh span has so many words.
@@ -24,20 +25,13 @@ fresh_length (suc d) n = ap suc (fresh_length d (n - 64))
 
 -- ---- the bits
 
--- The bits from k on, in two parts.
-from : (k : ℕ) → k ≤ 64 → 2 ^ 64 - 2 ^ k ≡ (2 ^ (64 - k) - 1) * 2 ^ k + 0
-from k h =
-    ap (λ (z : ℕ). 2 ^ z - 2 ^ k) (let e : 64 ≡ 64 - k + k = omega arith in e) ∙ high_ones (64 - k) k ∙ sym (add-zero ((2 ^ (64 - k) - 1) * 2 ^ k))
-
--- Below k they are clear.
+-- Below k the bits from k on are clear.
 pub from_low : (k i : ℕ) → k ≤ 64 → i < k → bit_at (2 ^ 64 - 2 ^ k) i ≡ 0
-from_low k i h l = ap (λ (z : ℕ). bit_at z i) (from k h) ∙ bit_cat_low (2 ^ (64 - k) - 1) k 0 i l ∙ bit_zero i
+from_low k i h l = bit_at_mask_below k 64 i l
 
 -- From k on they are set.
 pub from_high : (k i : ℕ) → k ≤ i → i < 64 → bit_at (2 ^ 64 - 2 ^ k) i ≡ 1
-from_high k i h l =
-    ap₂ bit_at (from k (omega arith)) (let e : i ≡ k + (i - k) = omega arith in e)
-    ∙ bit_cat_high (2 ^ (64 - k) - 1) k 0 (i - k) (pow_pos k) ∙ bit_ones (64 - k) (i - k) (omega arith)
+from_high k i h l = bit_at_mask_inside k 64 i h l
 
 -- They are not all of them where k is not 0.
 pub from_some : (k : ℕ) → 0 < k → 2 ^ 64 - 2 ^ k ≡ all_ones → ⊥

@@ -2,12 +2,10 @@
 use mathlib.Core.Path.{◌≡◌, refl, ap, ◌∙◌}
 use mathlib.Core.List.{List}
 use Prim.Native.Nat.{ℕ, ◌-◌, ◌/◌, ◌%◌}
-use native.Mathlib.Nat.{mod-lt}
 use native.Mathlib.Omega.{arith}
 use borrow.Rule.Slice.PartMut.{put_mid}
-use lib.Dec.{lit<}
 use lib.ListN.{set, replicate}
-use Rattle.bits.proofs.RotationLaws.{ones_shl}
+use Rattle.std.proofs.lemmas.Nat.Bits.{ones_shl}
 use Rattle.occupancy.specs.Occupied.{fresh_words, fresh_of}
 use Rattle.occupancy.proofs.FreshLaws.{Filled, filled, filled_whole, filled_partial}
 use Rattle.occupancy.proofs.Occupancy.fresh.Goals as goal
@@ -23,7 +21,7 @@ returns c =
     let e : c.if-full_words-lt64.words ≡ fresh_words 64 n =
     elim c.if-full_words-lt64.branch [
       | then-full_words-lt64 w ↦
-          w.words-is ∙ ap (set words full) (ones_shl (n % 64) (mod-lt n (lit< tt))) ∙ filled_partial n words f w.if-full_words-lt64.true
+          w.words-is ∙ ap (set words full) (ones_shl 64 (n % 64) (omega arith)) ∙ filled_partial n words f w.if-full_words-lt64.true
       | else-full_words-lt64 w ↦ w.words-is ∙ filled_whole n words f w.if-full_words-lt64.false
     ] in
     λ t. record { summary = c.ones_from.ensures t; words = e t; count = 0 }
