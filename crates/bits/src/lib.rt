@@ -7,13 +7,15 @@ ghost use Rattle.bits.specs.Deposit.{lowest};
 ghost use Rattle.bits.specs.Rotated.{rotated_right, rotated_left};
 
 // How many bits of x are set.
+#[tactic(auto, using(laws::proofs::WordLaws::ones_in_lem))]
 pub fn count(x: u64) -> u64
     ensures { result ≡ popcount x }
 {
-    u64::count_ones(x) as u64
+    u64::from(x.count_ones())
 }
 
 // Whether bit i of x is set.
+#[tactic(auto, using(laws::proofs::BitLaws::test_is))]
 pub fn test_bit(x: u64, i: u64) -> bool
     requires { i < 64 }
     ensures { result ≡ is_set x i }
@@ -22,6 +24,7 @@ pub fn test_bit(x: u64, i: u64) -> bool
 }
 
 // x with bit i set.
+#[tactic(auto, using(laws::proofs::BitLaws::set_is))]
 pub fn set_bit(x: u64, i: u64) -> u64
     requires { i < 64 }
     ensures { result ≡ set_bit x i }
@@ -30,6 +33,7 @@ pub fn set_bit(x: u64, i: u64) -> u64
 }
 
 // x with bit i clear.
+#[tactic(auto, using(laws::proofs::BitLaws::clear_is))]
 pub fn clear_bit(x: u64, i: u64) -> u64
     requires { i < 64 }
     ensures { result ≡ clear_bit x i }
@@ -42,29 +46,25 @@ pub fn ones_from(k: u64) -> u64
     requires { k ≤ 64 }
     ensures { result ≡ 2 ^ 64 - 2 ^ k }
 {
-    if k == 64 { 0 } else { u64::MAX << k }
+    u64::MAX.unbounded_shl(k as u32)
 }
 
 // x turned by k places towards its low end.
+#[tactic(auto, using(crate::proofs::RotationLaws::turned_right))]
 pub fn rotate_right(x: u64, k: u64) -> u64
     requires { k < 64 }
     ensures { result ≡ rotated_right x k }
 {
-    if k == 0 {
-        return x;
-    }
-    (x >> k) | (x << (64 - k))
+    x.rotate_right(k as u32)
 }
 
 // x turned by k places towards its high end.
+#[tactic(auto, using(crate::proofs::RotationLaws::turned_left))]
 pub fn rotate_left(x: u64, k: u64) -> u64
     requires { k < 64 }
     ensures { result ≡ rotated_left x k }
 {
-    if k == 0 {
-        return x;
-    }
-    (x << k) | (x >> (64 - k))
+    x.rotate_left(k as u32)
 }
 
 // The lowest n set bits of word, all of them where it has fewer.

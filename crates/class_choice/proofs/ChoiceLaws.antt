@@ -10,7 +10,7 @@ use lib.Dec.{eqb}
 use lib.ListN.{length, get_or}
 use borrow.Author.Tests.{eqb-true, eqb-false, eq-eqb}
 use Rattle.laws.specs.First.{first}
-use Rattle.laws.proofs.FirstLaws.{first_holds, first_le, first_before, first_from}
+use Rattle.laws.proofs.FirstLaws.{first_is, first_holds, first_le, first_before, first_from}
 use Rattle.size_classes.specs.SlotSizes.{slot_size, last_size, least_alignment, largest_slot, Admissible}
 use Rattle.size_classes.specs.Class.{raised, fits, class_of, lookup_entry, lookup_entries}
 use Rattle.size_classes.proofs.SlotSizeLaws.{size_le, size_least}
@@ -153,3 +153,26 @@ module _ (sizes lookup : List ℕ) (t : ClassTables sizes lookup) (s : ℕ) (hs 
         Some (aligned_from sizes (raised alignment) (get_or lookup (bucket_of (max s (raised alignment))) 0)) ≡ class_of sizes s alignment
     large_answer =
         searched sizes t.admissible s hs alignment (raised_last sizes t.admissible alignment h) _ start_entry
+
+-- The first aligned class from `start` on, where no class before it is aligned.
+pub found_at :
+    (sizes : List ℕ) (a start k : ℕ) →
+    start ≤ k →
+    k < length sizes →
+    slot_size sizes k % a ≡ 0 →
+    ((j : ℕ) → start ≤ j → j < k → eqb (slot_size sizes j % a) 0 ≡ false) →
+    aligned_from sizes a start ≡ k
+unfolding aligned_from
+found_at sizes a start k from l m passed =
+    first_is (λ j. eqb (slot_size sizes j % a) 0) (length sizes) start k from (omega arith) (eq-eqb (slot_size sizes k % a) 0 m) passed
+
+-- The last class is aligned.
+pub found_last :
+    (sizes : List ℕ) (a start k : ℕ) →
+    Search sizes a start →
+    start ≤ k →
+    k ≡ length sizes - 1 →
+    ((j : ℕ) → start ≤ j → j < k → eqb (slot_size sizes j % a) 0 ≡ false) →
+    aligned_from sizes a start ≡ k
+found_last sizes a start k q from l passed =
+    found_at sizes a start k from (omega (arith, q.class)) (rw l q.last) passed

@@ -5,19 +5,10 @@ use mathlib.Core.List.{List}
 use Prim.Native.Nat.{ℕ}
 use lib.ListN.{length, replicate}
 use Rattle.tables.specs.Shape.{Shape}
-use Rattle.tables.specs.Cells.{Tables, tables, right_shape, right_lengths, as_stated, fresh_tables}
+use Rattle.tables.specs.Cells.{Tables, tables, as_stated, fresh_tables}
 use Rattle.tables.specs.Fresh.{numbered, fresh}
 
 module _ (g : Shape) (t : Tables) where
-  -- Heaps or spans out of their limits, and the lengths where they are within.
-  pub shape_refused : (r : Bool) → r ≡ right_shape g → r ≡ false → false ≡ as_stated g t
-  unfolding as_stated
-  shape_refused r e f = rw (sym e ∙ f)
-
-  pub shape_right : (r q : Bool) → r ≡ right_shape g → r ≡ true → q ≡ right_lengths g t → q ≡ as_stated g t
-  unfolding as_stated
-  shape_right r q e f l = rw (sym e ∙ f, l)
-
   -- A table that is not as stated is left as it was.
   pub fresh_refused : (r : Bool) → r ≡ as_stated g t → r ≡ false → numbered 1 t ≡ fresh g t
   unfolding fresh

@@ -10,22 +10,15 @@ ghost use Rattle.tables.specs.Fresh.{numbered, fresh as freshly};
 const MOST_HEAPS: u64 = 16;
 
 // Whether heaps and spans are within their limits.
+#[tactic(auto, unfolding(tables::specs::Cells::right_shape, tables::specs::Shape::most_heaps))]
 fn right_shape(most: u64, heaps: u64, spans: u64) -> bool
     ensures { (sizes : List ℕ) → result ≡ right_shape (shape sizes most heaps spans) }
 {
-    if heaps < 1 {
-        return false;
-    }
-    if MOST_HEAPS < heaps {
-        return false;
-    }
-    if spans < 1 {
-        return false;
-    }
-    spans <= most
+    1 <= heaps && heaps <= MOST_HEAPS && 1 <= spans && spans <= most
 }
 
 // Whether each lent table is as long as heaps and spans ask.
+#[tactic(auto, unfolding(tables::specs::Cells::right_lengths, tables::specs::Shape::bitmap_cells, tables::specs::Shape::record_cells, tables::specs::Shape::head_cells))]
 fn right_lengths(
     sizes: &[u64],
     heaps: u64,
@@ -39,19 +32,14 @@ fn right_lengths(
     requires heaps_le_most_heaps { (heaps ≤ most_heaps) × (spans ≤ 2 ^ 32) }
     ensures { (most u : ℕ) → result ≡ right_lengths (shape sizes.now most heaps spans) (table bits.now records.now entries.now heads.now u) }
 {
-    if bits.len() as u64 != spans * tables::BITMAP_CELLS {
-        return false;
-    }
-    if records.len() as u64 != spans * tables::RECORD_CELLS {
-        return false;
-    }
-    if entries.len() as u64 != heaps * magazine_layout::entries_per_heap(sizes) {
-        return false;
-    }
-    heads.len() as u64 == heaps * (sizes.len() as u64) * tables::HEAD_CELLS
+    bits.len() as u64 == spans * tables::BITMAP_CELLS
+        && records.len() as u64 == spans * tables::RECORD_CELLS
+        && entries.len() as u64 == heaps * magazine_layout::entries_per_heap(sizes)
+        && heads.len() as u64 == heaps * (sizes.len() as u64) * tables::HEAD_CELLS
 }
 
 // Whether heaps, spans and every lent table's length are as stated.
+#[tactic(auto, unfolding(tables::specs::Cells::as_stated))]
 pub fn as_stated(
     sizes: &[u64],
     most: u64,
@@ -66,21 +54,15 @@ pub fn as_stated(
     requires most_bound { most ≤ 2 ^ 32 }
     ensures { (u : ℕ) → result ≡ as_stated (shape sizes.now most heaps spans) (table bits.now records.now entries.now heads.now u) }
 {
-    if !right_shape(most, heaps, spans) {
-        return false;
-    }
-    right_lengths(sizes, heaps, spans, bits, records, entries, heads)
+    right_shape(most, heaps, spans)
+        && right_lengths(sizes, heaps, spans, bits, records, entries, heads)
 }
 
 // 0 in every cell.
 pub fn zero(cells: &mut [u64])
     ensures { cells.new ≡ replicate (length cells.old) 0 }
 {
-    let mut i = 0;
-    while i < cells.len() {
-        cells[i] = 0;
-        i += 1;
-    }
+    cells.fill(0);
 }
 
 // Makes the lent table anew, or refuses with 1.

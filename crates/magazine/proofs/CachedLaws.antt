@@ -1,9 +1,17 @@
 -- An entry is cached exactly when it stands below the count. Assumes nothing.
-use mathlib.Core.Path.{◌≡◌, sym, ◌∙◌}
+use mathlib.Core.Path.{◌≡◌, refl, sym, ap, ◌∙◌}
 use mathlib.Core.Bool.{true, false, true≢false}
 use mathlib.Core.Logic.{⊎_elim}
-use Prim.Native.Nat.{ℕ}
+use mathlib.Core.List.{List}
+use Prim.Native.Nat.{ℕ, zero, suc, ◌+◌, ◌≤◌, ◌<◌}
+use native.Mathlib.Numerals.{add-one}
+use native.Mathlib.Omega.{arith}
 use lib.Dec.{eqb}
+use lib.ListN.{length, get_or, take, drop, length-drop}
+use Rattle.std.proofs.lemmas.List.{get_or-drop}
+use Rattle.std.specs.List.{list_any}
+use Rattle.std.proofs.lemmas.List.Folds.{list_any_more}
+use Rattle.laws.specs.Choice.{some}
 use borrow.Author.Tests.{eqb-true, eq-eqb}
 use Rattle.laws.proofs.FirstLaws.{tested}
 use Rattle.laws.proofs.SomeLaws.{some_here, some_at}
@@ -29,3 +37,15 @@ module _ (t : Tables) (k : ClassHeap) (e : ℕ) where
 
   pub not_uncached : (Among t k e → ⊥) → is_cached t k e ≡ false
   not_uncached n = ⊎_elim (λ c. absurd (n (cached_among c))) (λ c. c) (tested (is_cached t k e))
+
+-- The entries below the count, looked through one by one.
+pub scanned :
+    (entries : List ℕ) (base c e : ℕ) →
+    base + c ≤ length entries →
+    list_any (λ y. eqb y e) (take c (drop base entries)) ≡ some c (λ j. eqb (get_or entries (base + j) 0) e)
+unfolding some
+scanned entries base zero e h = refl
+scanned entries base (suc c) e h =
+    let l : c < length (drop base entries) = omega (arith, length-drop base entries) in
+    ap (λ (n : ℕ). list_any (λ y. eqb y e) (take n (drop base entries))) (sym (add-one c)) ∙ list_any_more (λ y. eqb y e) (drop base entries) c 0 l
+    ∙ rw (scanned entries base c e (omega arith), get_or-drop) refl

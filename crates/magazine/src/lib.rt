@@ -78,13 +78,6 @@ pub fn is_cached(entries: &[u64], heads: &[u64], k: ClassHeap, e: u64) -> bool
     requires { Room entries.now heads.now k }
     ensures { (b p : List ℕ) (u : ℕ) → result ≡ is_cached (table b p entries.now heads.now u) k e }
 {
-    let c = count(heads, k);
-    let mut i: u64 = 0;
-    while i < c {
-        if tables::entry(entries, k.base, i) == e {
-            return true;
-        }
-        i += 1;
-    }
-    false
+    let end = k.base + count(heads, k);
+    entries[k.base as usize..end as usize].contains(&e)
 }

@@ -18,14 +18,7 @@ pub fn capacity_for(slot: u64) -> u64
     requires { 0 < slot }
     ensures { result ≡ capacity_for slot }
 {
-    let entries = MAGAZINE_BYTES / slot;
-    if entries < LEAST_CAPACITY {
-        LEAST_CAPACITY
-    } else if MOST_CAPACITY < entries {
-        MOST_CAPACITY
-    } else {
-        entries
-    }
+    (MAGAZINE_BYTES / slot).clamp(LEAST_CAPACITY, MOST_CAPACITY)
 }
 
 // The count at which a magazine is refilled.

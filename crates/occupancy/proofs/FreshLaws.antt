@@ -1,17 +1,20 @@
 -- The words of a fresh span: each bit, and how the code fills them. Assumes nothing.
-use mathlib.Core.Path.{◌≡◌, refl, sym, ap, ap₂, ◌∙◌}
+use mathlib.Core.Path.{◌≡◌, refl, sym, ap, ◌∙◌}
 use mathlib.Core.List.{List}
 use mathlib.Core.Logic.{⊎_elim}
-use Prim.Native.Nat.{ℕ, zero, suc, ◌+◌, ◌-◌, ◌*◌, ◌/◌, ◌%◌, ◌^◌, ◌≤◌, ◌<◌, min}
-use native.Mathlib.Nat.{add-zero, sub-zero}
+use Prim.Native.Nat.{ℕ, zero, suc, ◌-◌, ◌*◌, ◌/◌, ◌%◌, ◌^◌, ◌≤◌, ◌<◌, min}
+use native.Mathlib.Nat.{sub-zero}
 use native.Mathlib.Omega.{arith}
 use lib.Dec.{lit<}
-use lib.ListN.{length, get_or, set, length-set, replicate, get_or-replicate}
+use Rattle.std.proofs.lemmas.Nat.Bits.{bit_at_mask_below, bit_at_mask_inside}
+use lib.ListN.{length, get_or, set, length-set, replicate, get_or-replicate, take, drop, length-take, length-drop, length-append, length-replicate, get_or-append}
 use lib.Seq.{ext_get_or}
-use lib.Pow.{pow_pos, pow_mono, pow-sub-lt, high_ones}
+use borrow.Rule.Slice.PartMut.{put_mid}
+use Rattle.std.proofs.lemmas.List.{get_or-take, get_or-append_right}
+use lib.Pow.{pow_pos, pow_mono, pow-sub-lt}
 use Rattle.laws.specs.Word.{all_ones, bit_at}
 use Rattle.laws.proofs.CellLaws.{set_at}
-use Rattle.laws.proofs.BitLaws.{lt_or_le, bit_zero, bit_ones, bit_cat_low, bit_cat_high}
+use Rattle.laws.proofs.BitLaws.{lt_or_le}
 use Rattle.occupancy.specs.Occupied.{fresh_words}
 
 -- A fresh span has so many words.
@@ -22,20 +25,13 @@ fresh_length (suc d) n = ap suc (fresh_length d (n - 64))
 
 -- ---- the bits
 
--- The bits from k on, in two parts.
-from : (k : ℕ) → k ≤ 64 → 2 ^ 64 - 2 ^ k ≡ (2 ^ (64 - k) - 1) * 2 ^ k + 0
-from k h =
-    ap (λ (z : ℕ). 2 ^ z - 2 ^ k) (let e : 64 ≡ 64 - k + k = omega arith in e) ∙ high_ones (64 - k) k ∙ sym (add-zero ((2 ^ (64 - k) - 1) * 2 ^ k))
-
--- Below k they are clear.
+-- Below k the bits from k on are clear.
 pub from_low : (k i : ℕ) → k ≤ 64 → i < k → bit_at (2 ^ 64 - 2 ^ k) i ≡ 0
-from_low k i h l = ap (λ (z : ℕ). bit_at z i) (from k h) ∙ bit_cat_low (2 ^ (64 - k) - 1) k 0 i l ∙ bit_zero i
+from_low k i h l = bit_at_mask_below k 64 i l
 
 -- From k on they are set.
 pub from_high : (k i : ℕ) → k ≤ i → i < 64 → bit_at (2 ^ 64 - 2 ^ k) i ≡ 1
-from_high k i h l =
-    ap₂ bit_at (from k (omega arith)) (let e : i ≡ k + (i - k) = omega arith in e)
-    ∙ bit_cat_high (2 ^ (64 - k) - 1) k 0 (i - k) (pow_pos k) ∙ bit_ones (64 - k) (i - k) (omega arith)
+from_high k i h l = bit_at_mask_inside k 64 i h l
 
 -- They are not all of them where k is not 0.
 pub from_some : (k : ℕ) → 0 < k → 2 ^ 64 - 2 ^ k ≡ all_ones → ⊥
@@ -60,32 +56,36 @@ fresh_small (suc d) n (suc i) = fresh_small d (n - 64) i
 
 -- ---- the code fills them
 
--- What the loop has done: the words from `full` on are all ones, up to word i.
-pub record Filled (full i : ℕ) (words : List ℕ) : Type 0 where
+-- The words from `full` on are all ones, and those before it are 0.
+pub record Filled (full : ℕ) (words : List ℕ) : Type 0 where
   pub long : length words ≡ 64
   pub free : (k : ℕ) → k < full → get_or words k 0 ≡ 0
-  pub ones : (k : ℕ) → full ≤ k → k < i → get_or words k 0 ≡ all_ones
+  pub ones : (k : ℕ) → full ≤ k → k < 64 → get_or words k 0 ≡ all_ones
 
--- The loop starts.
-pub filled_start : (full : ℕ) → full ≤ 64 → Filled full full (replicate 64 0)
-filled_start full h =
+-- 64 words that were 0, filled from `full` on.
+pub filled :
+    (full : ℕ) (words part : List ℕ) →
+    full ≤ 64 →
+    words ≡ replicate 64 0 →
+    part ≡ replicate (length (take (64 - full) (drop full words))) all_ones →
+    Filled full (put_mid full (64 - full) words part)
+filled full words part h w e =
+    let long : length words ≡ 64 = rw w refl in
+    let zero : (k : ℕ) → k < 64 → get_or words k 0 ≡ 0 = λ k l. rw w (get_or-replicate 64 k 0 0 l) in
+    let many : length (take (64 - full) (drop full words)) ≡ 64 - full = simp (length-take, length-drop) (omega arith) in
+    let part_is : part ≡ replicate (64 - full) all_ones = rw many at e in
+    let front : length (take full words) ≡ full = omega (arith, length-take full words) in
     record {
-      long = refl;
-      free = λ k l. get_or-replicate 64 k 0 0 (omega arith);
-      ones = λ k l u. absurd (let z : ⊥ = omega arith in z);
-    }
-
--- One turn of the loop.
-pub filled_turn : (full i : ℕ) (words : List ℕ) → full ≤ i → i < 64 → Filled full i words → Filled full (i + 1) (set words i all_ones)
-filled_turn full i words l h f =
-    record {
-      long = length-set words i all_ones ∙ f.long;
+      long = rw part_is (simp (length-append, length-replicate, length-take, length-drop) (omega arith));
       free =
-          set_at (λ k z. k < full → z ≡ 0) words i all_ones (omega (arith, f.long)) (λ u. absurd (let z : ⊥ = omega arith in z))
-          (λ k n. f.free k);
+          λ k u.
+          let l : k < length (take full words) = omega arith in
+          rw (get_or-append, get_or-take) (zero k (omega arith));
       ones =
-          set_at (λ k z. full ≤ k → k < i + 1 → z ≡ all_ones) words i all_ones (omega (arith, f.long)) (λ u v. refl)
-          (λ k n u v. f.ones k u (let z : k < i = omega (arith, n) in z));
+          λ k u v.
+          let l : k - full < 64 - full = omega arith in
+          let l' : k - full < length (replicate (64 - full) all_ones) = rw length-replicate l in
+          rw (get_or-append_right (take full words) _ full k 0 front u, part_is, get_or-append, get_or-replicate) refl;
     }
 
 -- A word before the last slot's is 0.
@@ -101,8 +101,8 @@ fresh_partial_word n h =
 fresh_full_word : (n k : ℕ) → k < 64 → n / 64 < k → all_ones ≡ get_or (fresh_words 64 n) k 0
 fresh_full_word n k h l = sym (fresh_at 64 n k h ∙ ap (λ (z : ℕ). 2 ^ 64 - 2 ^ z) (let e : min (n - 64 * k) 64 ≡ 0 = omega arith in e))
 
-module _ (n i : ℕ) (words : List ℕ) (hi : 64 ≤ i) (f : Filled (n / 64) i words) where
-  -- The loop ends, and there is no partial word.
+module _ (n : ℕ) (words : List ℕ) (f : Filled (n / 64) words) where
+  -- There is no partial word.
   pub filled_whole : 64 ≤ n / 64 → words ≡ fresh_words 64 n
   filled_whole h =
       ext_get_or 0 words (fresh_words 64 n) (f.long ∙ sym (fresh_length 64 n))
@@ -110,7 +110,7 @@ module _ (n i : ℕ) (words : List ℕ) (hi : 64 ≤ i) (f : Filled (n / 64) i w
       let hk : k < 64 = omega (arith, f.long) in
       f.free k (omega arith) ∙ fresh_free_word n k hk (omega arith))
 
-  -- The loop ends, and the partial word is stored.
+  -- The partial word is stored.
   pub filled_partial : n / 64 < 64 → set words (n / 64) (2 ^ 64 - 2 ^ (n % 64)) ≡ fresh_words 64 n
   filled_partial h =
       ext_get_or 0 (set words (n / 64) (2 ^ 64 - 2 ^ (n % 64))) (fresh_words 64 n)
@@ -120,5 +120,5 @@ module _ (n i : ℕ) (words : List ℕ) (hi : 64 ≤ i) (f : Filled (n / 64) i w
       (λ u. fresh_partial_word n h)
       (λ k m u.
       ⊎_elim (λ v. f.free k v ∙ fresh_free_word n k u v)
-      (λ v. f.ones k v (omega arith) ∙ fresh_full_word n k u (let z : n / 64 < k = omega (arith, m) in z)) (lt_or_le k (n / 64)))
+      (λ v. f.ones k v u ∙ fresh_full_word n k u (let z : n / 64 < k = omega (arith, m) in z)) (lt_or_le k (n / 64)))
       k (omega (arith, length-set words (n / 64) (2 ^ 64 - 2 ^ (n % 64)), f.long)))

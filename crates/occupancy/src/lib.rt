@@ -34,7 +34,7 @@ fn free_word(summary: u64, random: u64) -> u64
 {
     let word_rotation = random % 64;
     let turned = bits::rotate_right(!summary, word_rotation);
-    (word_rotation + u64::trailing_zeros(turned) as u64) % 64
+    (word_rotation + u64::from(turned.trailing_zeros())) % 64
 }
 
 // The free slots of a word, all of them where they are at most max; else a window of max: rotate, take the lowest, rotate back.
@@ -58,11 +58,7 @@ impl Occupancy {
     {
         let full_words = (slots / 64) as usize;
         let mut words = [0u64; 64];
-        let mut i = full_words;
-        while i < 64 {
-            words[i] = u64::MAX;
-            i += 1;
-        }
+        words[full_words..].fill(u64::MAX);
         if full_words < 64 {
             words[full_words] = u64::MAX << (slots % 64);
         }
@@ -133,7 +129,7 @@ impl Occupancy {
         }
         let i = word as usize;
         let mut words = self.words;
-        words[i] = words[i] & !freed;
+        words[i] &= !freed;
         Occupancy {
             summary: bits::clear_bit(self.summary, word),
             words,
@@ -157,13 +153,10 @@ impl Occupancy {
         ensures { result ≡ fold_in self pending.now }
     {
         let mut o = self;
-        let mut i: usize = 0;
-        while i < 64 {
-            let freed = pending[i];
+        for (i, &freed) in pending.iter().enumerate() {
             if freed != 0 {
                 o = o.release_slots_by_word(i as u64, freed);
             }
-            i += 1;
         }
         o
     }

@@ -85,14 +85,7 @@ pub fn slots_per_span(slot: u64) -> u64
     requires { 0 < slot }
     ensures { result ≡ slots_per_span slot }
 {
-    let slots = LARGEST_SLOT / slot;
-    if slots < FEWEST_SLOTS {
-        FEWEST_SLOTS
-    } else if MOST_SLOTS < slots {
-        MOST_SLOTS
-    } else {
-        slots
-    }
+    (LARGEST_SLOT / slot).clamp(FEWEST_SLOTS, MOST_SLOTS)
 }
 
 // How long a span is, in bytes.

@@ -31,34 +31,40 @@ const REMOTE_SUMMARY: u64 = 65;
 
 const REMOTE_WORDS: u64 = 66;
 
+const CLASS: u64 = 0;
+
 const OCCUPIED: u64 = 2;
+
+// The remote summary and the 64 remote words, one after the other.
+const REMOTE_CELLS: usize = 65;
 
 // The 64 cells from a place on, by value.
 fn words_from(bits: &[u64], at: u64) -> [u64; 64]
     requires { at + 64 ≤ length bits.now }
     ensures { result ≡ take 64 (drop at bits.now) }
 {
-    let mut words = [0u64; 64];
     let from = at as usize;
-    let mut i: usize = 0;
-    while i < 64 {
-        words[i] = bits[from + i];
-        i += 1;
-    }
+    let mut words = [0; 64];
+    words.copy_from_slice(&bits[from..from + 64]);
     words
 }
 
-// 64 words into the cells from a place on.
-fn put_words(bits: &mut [u64], at: u64, words: [u64; 64])
-    requires { at + 64 ≤ length bits.old }
-    ensures { bits.new ≡ paste bits.old at words 64 }
+// Numbers into the cells from a place on.
+fn put_cells(cells: &mut [u64], at: u64, numbers: &[u64])
+    requires { at + length numbers.now ≤ length cells.old }
+    ensures { cells.new ≡ paste cells.old at numbers.now (length numbers.now) }
 {
     let from = at as usize;
-    let mut i: usize = 0;
-    while i < 64 {
-        bits[from + i] = words[i];
-        i += 1;
-    }
+    cells[from..from + numbers.len()].copy_from_slice(numbers);
+}
+
+// The summary and the words of an occupancy into the local ones of span s.
+fn put_local(bits: &mut [u64], s: u64, o: &Occupancy)
+    requires { WordCells bits.old s }
+    ensures { bits.new ≡ paste bits.old (bitmap_cell s local_summary) (o.now.summary ∷ o.now.words) 65 }
+{
+    tables::put_word(bits, s, LOCAL_SUMMARY, o.summary);
+    put_cells(bits, tables::bitmap_cell(s, LOCAL_WORDS), &o.words);
 }
 
 // The occupancy of span s.
@@ -79,9 +85,7 @@ pub fn store(bits: &mut [u64], spans: &mut [u64], s: u64, o: Occupancy)
     requires { SpanCells bits.old spans.old s }
     ensures { (e h : List ℕ) (u : ℕ) → table bits.new spans.new e h u ≡ stored_in (table bits.old spans.old e h u) s o }
 {
-    let words = o.words;
-    tables::put_word(bits, s, LOCAL_SUMMARY, o.summary);
-    put_words(bits, tables::bitmap_cell(s, LOCAL_WORDS), words);
+    put_local(bits, s, &o);
     tables::put_field(spans, s, OCCUPIED, o.count);
 }
 
@@ -113,8 +117,8 @@ pub fn clear_pending(bits: &mut [u64], s: u64)
     requires { WordCells bits.old s }
     ensures { (p e h : List ℕ) (u : ℕ) → table bits.new p e h u ≡ clear_pending (table bits.old p e h u) s }
 {
-    tables::put_word(bits, s, REMOTE_SUMMARY, 0);
-    put_words(bits, tables::bitmap_cell(s, REMOTE_WORDS), [0u64; 64]);
+    let from = tables::bitmap_cell(s, REMOTE_SUMMARY);
+    put_cells(bits, from, &[0; REMOTE_CELLS]);
 }
 
 // A free of slot q of span s by another heap.
@@ -135,10 +139,7 @@ fn blank(bits: &mut [u64], s: u64, slots: u64)
     requires slots_bound { slots ≤ 4096 }
     ensures { bits.new ≡ paste bits.old (bitmap_cell s local_summary) (((fresh_of slots).summary ∷ (fresh_of slots).words) ++ replicate 65 0) bitmap_cells }
 {
-    let o = Occupancy::fresh(slots);
-    let words = o.words;
-    tables::put_word(bits, s, LOCAL_SUMMARY, o.summary);
-    put_words(bits, tables::bitmap_cell(s, LOCAL_WORDS), words);
+    put_local(bits, s, &Occupancy::fresh(slots));
     clear_pending(bits, s);
 }
 
@@ -147,11 +148,7 @@ fn new_record(spans: &mut [u64], s: u64, class: u64, owner: u64)
     requires { FieldCells spans.old s }
     ensures { spans.new ≡ sets spans.old (span_cell s class_field) (class ∷ owner ∷ 0 ∷ 0 ∷ 0 ∷ []) }
 {
-    tables::put_field(spans, s, 0, class);
-    tables::put_field(spans, s, 1, owner);
-    tables::put_field(spans, s, 2, 0);
-    tables::put_field(spans, s, 3, 0);
-    tables::put_field(spans, s, 4, 0);
+    put_cells(spans, tables::span_cell(s, CLASS), &[class, owner, 0, 0, 0]);
 }
 
 // The next unused span, written new.

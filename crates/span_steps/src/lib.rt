@@ -39,8 +39,7 @@ fn less_pending(bits: &[u64], spans: &[u64], s: u64) -> Occupancy
 {
     let o = span::load(bits, spans, s);
     let from = tables::bitmap_cell(s, REMOTE_WORDS) as usize;
-    let end = from + 64;
-    o.fold_in(&bits[from..end])
+    o.fold_in(&bits[from..from + 64])
 }
 
 // The pending frees of span s leave its occupancy.
@@ -87,14 +86,10 @@ pub fn push_claimed(entries: &mut [u64], heads: &mut [u64], k: ClassHeap, s: u64
     ensures { (b p : List ℕ) (u : ℕ) → table b p entries.new heads.new u ≡ push_entries (claimed_entries s i mask) (table b p entries.old heads.old u) k }
 {
     let first = tables::entry_of(s, i * 64);
-    let mut rest = mask;
-    let mut b: u64 = 0;
-    while b < 64 {
-        if rest % 2 == 1 {
+    for b in 0..64 {
+        if bits::test_bit(mask, b) {
             magazine::push(entries, heads, k, first + b);
         }
-        rest /= 2;
-        b += 1;
     }
 }
 

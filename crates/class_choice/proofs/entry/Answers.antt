@@ -3,6 +3,6 @@ use native.Mathlib.Omega.{arith}
 use Rattle.size_classes.specs.Class.{lookup_entries}
 use Rattle.class_choice.proofs.entry.Goals as goal
 
-pub bounds-lookup-at : goal.bounds-lookup-at
+pub bounds-lookup-b : goal.bounds-lookup-b
 unfolding lookup_entries
-bounds-lookup-at c = omega arith
+bounds-lookup-b c = omega arith

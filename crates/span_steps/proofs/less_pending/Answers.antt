@@ -12,8 +12,8 @@ use Rattle.span_steps.proofs.less_pending.Goals as goal
 pub bitmap_cell-from-requires : goal.bitmap_cell-from-requires
 bitmap_cell-from-requires c = omega (arith, remote_there _ _ c.requires.span_cells.words)
 
-pub overflow_add-end : goal.overflow_add-end
-overflow_add-end c = search (rules, remote_there _ _ c.requires.span_cells.words, c.bitmap_cell-from.ensures)
+pub overflow_add-from : goal.overflow_add-from
+overflow_add-from c = search (rules, remote_there _ _ c.requires.span_cells.words, c.bitmap_cell-from.ensures)
 
 pub offset_bounds-bits-from : goal.offset_bounds-bits-from
 offset_bounds-bits-from c = search (rules, remote_there _ _ c.requires.span_cells.words, c.bitmap_cell-from.ensures)

@@ -4,7 +4,7 @@ use mathlib.Core.Path.{sym, ap, ◌∙◌}
 use Prim.Native.Nat.{ℕ, ◌+◌}
 use native.Mathlib.Omega.{arith}
 use lib.Bits.{bit_or}
-use borrow.Author.Tests.{eq-eqb, ne_eqb, eqb-false}
+use borrow.Author.Tests.{eq-eqb, ne_eqb}
 use Rattle.laws.specs.Word.{all_ones, set_bit}
 use Rattle.laws.proofs.WordLaws.{ones_most}
 use Rattle.occupancy.specs.Occupied.{word_of}
@@ -23,7 +23,7 @@ returns-then-max-eq0 c =
     ]
 
 pub free_word-i-requires : goal.free_word-i-requires
-free_word-i-requires c = omega (arith, c.requires.1.top, eqb-false c.args.self.summary all_ones c.if-summary.false-raw)
+free_word-i-requires c = omega (arith, c.requires.1.top)
 
 pub overflow_add-count : goal.overflow_add-count
 overflow_add-count c =
@@ -39,7 +39,7 @@ returns-then-next c =
     claim_made c.requires.0 o c.requires.1 c.args.max c.args.random word.result mask.result c.set_bit-summary.result
     (o.count + count.result)
     c.if-max-eq0.false
-    (omega (arith, c.requires.1.top, eqb-false o.summary all_ones c.if-summary.false-raw))
+    (omega (arith, c.requires.1.top))
     word.ensures mask.ensures
     (c.set_bit-summary.ensures ∙ sym (ap (λ (b : Bool). cond b (set_bit o.summary word.result) o.summary) (eq-eqb (bit_or (word_of o word.result) mask.result) all_ones c.if-next.true)))
     (ap (λ (z : ℕ). o.count + z) count.ensures)
@@ -52,7 +52,7 @@ returns-else-next c =
     let count = c.count in
     claim_made c.requires.0 o c.requires.1 c.args.max c.args.random word.result mask.result o.summary (o.count + count.result)
     c.if-max-eq0.false
-    (omega (arith, c.requires.1.top, eqb-false o.summary all_ones c.if-summary.false-raw)) word.ensures
+    (omega (arith, c.requires.1.top)) word.ensures
     mask.ensures
     (sym (ap (λ (b : Bool). cond b (set_bit o.summary word.result) o.summary) (ne_eqb (bit_or (word_of o word.result) mask.result) all_ones c.if-next.false)))
     (ap (λ (z : ℕ). o.count + z) count.ensures)

@@ -31,14 +31,14 @@ pub entry-start-requires : goal.entry-start-requires
 entry-start-requires c =
     let ok = c.requires.admissible in
     let h = raised_last _ ok c.args.alignment (omega arith) in
-    rw c.bucket-2.ensures (bucket_entry _ (omega (arith, c.larger.ensures, c.raise-raised.ensures, ok.largest)))
+    rw c.bucket-2.ensures (bucket_entry _ (omega (arith, c.max.ensures, c.raise-raised.ensures, ok.largest)))
 
 pub aligned_from-class-requires : goal.aligned_from-class-requires
 aligned_from-class-requires c =
-    rw (c.entry-start.ensures, c.bucket-2.ensures, c.larger.ensures, c.raise-raised.ensures)
+    rw (c.entry-start.ensures, c.bucket-2.ensures, c.max.ensures, c.raise-raised.ensures)
     (search_entry _ _ c.requires _ (omega arith) _ (omega arith))
 
 pub returns : goal.returns
 returns c =
-    rw (c.aligned_from-class.ensures, c.entry-start.ensures, c.bucket-2.ensures, c.larger.ensures, c.raise-raised.ensures)
+    rw (c.aligned_from-class.ensures, c.entry-start.ensures, c.bucket-2.ensures, c.max.ensures, c.raise-raised.ensures)
     (large_answer _ _ c.requires _ (omega arith) _ (omega arith))
