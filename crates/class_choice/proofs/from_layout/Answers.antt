@@ -1,9 +1,10 @@
 -- `class_choice::from_layout` meets its contract. Assumes nothing.
+use Rattle.size_classes.proofs.SlotSizeLaws.{slot_sizes_admissible}
 use Rattle.class_lookup.proofs.LookupLaws.{class_tables}
 use Rattle.class_choice.proofs.from_layout.Goals as goal
 
-pub class_of-requires : goal.class_of-requires
-class_of-requires c = rw (c.slot_sizes-sizes.ensures, c.made-lookup.ensures) class_tables
+pub new-sizes-requires : goal.new-sizes-requires
+new-sizes-requires c = rw c.slot_sizes-list.ensures slot_sizes_admissible
 
-pub returns : goal.returns
-returns c = rw c.slot_sizes-sizes.ensures at c.class_of.ensures
+pub new-requires : goal.new-requires
+new-requires c = rw (c.new-sizes.ensures, c.slot_sizes-list.ensures, c.made-lookup.ensures) class_tables.right

@@ -4,14 +4,6 @@ use Rattle.size_classes.specs.SlotSizes.{largest_slot}
 use Rattle.size_classes.specs.Slots.{most_slots, fewest_slots, slots_per_span}
 use Rattle.size_classes.proofs.slots_per_span.Goals as goal
 
-pub returns-then-slots-lt-FEWEST_SLOTS : goal.returns-then-slots-lt-FEWEST_SLOTS
+pub returns : goal.returns
 unfolding slots_per_span most_slots fewest_slots largest_slot
-returns-then-slots-lt-FEWEST_SLOTS c = omega arith
-
-pub returns-then-slots-gt-MOST_SLOTS : goal.returns-then-slots-gt-MOST_SLOTS
-unfolding slots_per_span most_slots fewest_slots largest_slot
-returns-then-slots-gt-MOST_SLOTS c = omega arith
-
-pub returns-else-slots-gt-MOST_SLOTS : goal.returns-else-slots-gt-MOST_SLOTS
-unfolding slots_per_span most_slots fewest_slots largest_slot
-returns-else-slots-gt-MOST_SLOTS c = omega arith
+returns c = omega arith
