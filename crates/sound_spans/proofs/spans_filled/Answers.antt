@@ -21,7 +21,7 @@ unfolding most_slots
 few_slots = slots_most
 
 pub spans-init : goal.spans-init
-spans-init c = record { fine = refl; within = omega arith; each = below_none _ }
+spans-init c = record { fine = refl; each = below_none _ }
 
 pub field-class-requires : goal.field-class-requires
 field-class-requires c = field_there _ _ (fields_there c.requires.used_cells c.spans-test.true) _ (omega arith)
@@ -93,7 +93,6 @@ pub spans-preserved : goal.spans-preserved
 spans-preserved c =
     record {
       fine = c.loop-i.invariant.fine;
-      within = omega arith;
       each =
           below_more _ _ c.spans.invariant.each
           (λ e h most n.
