@@ -14,13 +14,13 @@ says_eqb a b {P} f g = go (eqb a b) refl
     go true e = f (eqb-true a b e)
     go false e = λ p. eqb-false a b e (g p)
 
--- What an answer that is not false says, and what one that is false refutes.
-pub granted : (r : Bool) {P : Type 0} → Says r P → not r ≡ false → P
+-- What an answer that is true says, and what one that is false refutes.
+pub granted : (r : Bool) {P : Type 0} → Says r P → r ≡ true → P
 granted true p e = p
-granted false p e = absurd (true≢false e)
+granted false p e = absurd (true≢false (sym e))
 
-pub refuted : (r : Bool) {P : Type 0} → Says r P → not r ≡ true → P → ⊥
-refuted true n e p = true≢false (sym e)
+pub refuted : (r : Bool) {P : Type 0} → Says r P → r ≡ false → P → ⊥
+refuted true n e p = true≢false e
 refuted false n e p = n p
 
 -- An answer that turns a test round says what the test's failing amounts to.

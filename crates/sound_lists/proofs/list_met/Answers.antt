@@ -24,14 +24,14 @@ returns-then-met-used c b e w = endless _ _ _ _ _ (c.loop-x.invariant.at b e) c.
 
 pub returns-then-not-link_fits : goal.returns-then-not-link_fits
 returns-then-not-link_fits c b e w =
-    refuted c.link_fits.result (c.link_fits.ensures b e c.args.heads.now) c.if-not-link_fits.true-raw
+    refuted c.link_fits.result (c.link_fits.ensures b e c.args.heads.now) c.if-not-link_fits.true
     (fits _ _ _ _ _ (c.loop-x.invariant.at b e) c.loop-x-test.true (omega (arith, c.loop-x.invariant.within, c.if-met-used.false)) w)
 
 pub field-x-requires : goal.field-x-requires
 field-x-requires c =
     let a = c.args in
     let named : c.loop-x.x - 1 < a.used =
-    (granted c.link_fits.result (c.link_fits.ensures a.heads.now a.heads.now a.heads.now) c.if-not-link_fits.false-raw).belongs.used in
+    (granted c.link_fits.result (c.link_fits.ensures a.heads.now a.heads.now a.heads.now) c.if-not-link_fits.false).belongs.used in
     field_there _ _ (record_there c.requires.used_fields named) _ (omega arith)
 
 pub loop-x-preserved : goal.loop-x-preserved
@@ -45,7 +45,7 @@ loop-x-preserved c =
           let t = tables b a.spans.now e a.heads.now a.used in
           subst (Reach t a.k a.f a.low a.high (c.loop-x.met + 1) c.loop-x.x) (sym c.field-x.ensures)
           (step t a.k a.f a.low a.high (c.loop-x.invariant.at b e) c.loop-x-test.true
-          (granted c.link_fits.result (c.link_fits.ensures b e a.heads.now) c.if-not-link_fits.false-raw) l);
+          (granted c.link_fits.result (c.link_fits.ensures b e a.heads.now) c.if-not-link_fits.false) l);
     }
 
 pub returns : goal.returns
