@@ -1,32 +1,34 @@
 -- Little-endian numbers from their bytes, and the words of a seed one after the other. Assumes nothing.
 use Rattle.std.proofs.Common.{◌≡◌, ℕ, zero, suc, ◌+◌, ◌*◌, ◌%◌, ◌^◌, ◌<◌, ◌≤◌, List, ◌∷◌, ◌++◌, length, get_or, take, drop, set, replicate, sym, refl, ap, ◌∙◌, append-nil, zero-add, arith, take_all, drop-cons}
+use Rattle.std.specs.Int.{w64, from_le_bytes}
+use Rattle.std.proofs.lemmas.List.{get_or-take, get_or-drop}
 use lib.ListN.{length-replicate}
 use lib.Seq.{paste, paste-zero, paste-suc, drop-length}
 use Rattle.calls.specs.Batch.{little_endian, word_step, words_from}
 
 -- ---- numbers
 
--- Four bytes,
-pub four_bytes :
-    (bytes : List ℕ) (at a b c d : ℕ) → a ≡ get_or bytes at 0 → b ≡ get_or bytes (at + 1) 0 → c ≡ get_or bytes (at + 2) 0 → d ≡ get_or bytes (at + 3) 0 →
-    a + 256 * b + 65536 * c + 16777216 * d ≡ little_endian 4 bytes at
+-- Eight bytes from a place on, as the library takes them.
+pub eight_bytes : (bytes : List ℕ) (at n : ℕ) → n ≡ 8 → from_le_bytes w64 (take n (drop at bytes)) ≡ little_endian 8 bytes at
 unfolding little_endian
-four_bytes bytes at a b c d p q r s =
-    let two : at + 1 + 1 ≡ at + 2 = omega arith in
-    let three : at + 2 + 1 ≡ at + 3 = omega arith in
-    rw (two, three, ← p, ← q, ← r, ← s) (omega arith)
-
--- and twice four.
-pub eight_bytes :
-    (bytes : List ℕ) (at low high : ℕ) → low ≡ little_endian 4 bytes at → high ≡ little_endian 4 bytes (at + 4) →
-    low + 4294967296 * high ≡ little_endian 8 bytes at
-unfolding little_endian
-eight_bytes bytes at low high p q =
-    let two : at + 1 + 1 ≡ at + 2 = omega arith in
-    let three : at + 2 + 1 ≡ at + 3 = omega arith in
-    let four : at + 3 + 1 ≡ at + 4 = omega arith in
-    let p' = rw (two, three) at p in
-    rw (two, three, four) (omega (arith, p', q))
+eight_bytes bytes at n e =
+    let b = take n (drop at bytes) in
+    let byte : (i j : ℕ) → i < 8 → at + i ≡ j → get_or b i 0 ≡ get_or bytes j 0 =
+    λ i j h q. get_or-take n (drop at bytes) i 0 (omega arith) ∙ get_or-drop at bytes i 0 ∙ ap (λ (k : ℕ). get_or bytes k 0) q in
+    let taken : from_le_bytes w64 b ≡
+    get_or b 0 0 + get_or b 1 0 * 256 + get_or b 2 0 * 65536 + get_or b 3 0 * 16777216 + get_or b 4 0 * 4294967296
+    + get_or b 5 0 * 1099511627776 + get_or b 6 0 * 281474976710656 + get_or b 7 0 * 72057594037927936 = refl in
+    taken ∙ omega (
+      arith,
+      byte 0 at (omega arith) (omega arith),
+      byte 1 (at + 1) (omega arith) (omega arith),
+      byte 2 (at + 1 + 1) (omega arith) (omega arith),
+      byte 3 (at + 1 + 1 + 1) (omega arith) (omega arith),
+      byte 4 (at + 1 + 1 + 1 + 1) (omega arith) (omega arith),
+      byte 5 (at + 1 + 1 + 1 + 1 + 1) (omega arith) (omega arith),
+      byte 6 (at + 1 + 1 + 1 + 1 + 1 + 1) (omega arith) (omega arith),
+      byte 7 (at + 1 + 1 + 1 + 1 + 1 + 1 + 1) (omega arith) (omega arith),
+    )
 
 -- ---- words
 

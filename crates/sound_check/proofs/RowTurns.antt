@@ -13,7 +13,7 @@ use Rattle.tables.specs.Cells.{Tables, head_cell}
 use Rattle.tables.proofs.CellLaws.{head_in, list_in, row_in}
 use Rattle.tables.proofs.MagazineCells.{base_within}
 use Rattle.sound.specs.Sound.{MagazineSound}
-use Rattle.sound_lists.specs.Walked.{UsedFields, ClassLists, spans_in, ClassCells, Met}
+use Rattle.sound_lists.specs.Walked.{UsedFields, ClassLists, spans_in, ClassCells}
 use Rattle.sound_check.specs.Joined.{class_at_row, joined, RowsSound, RowCells, Passed}
 use Rattle.sound_check.proofs.RowsJoined.{joined_more, joined_few}
 
@@ -54,10 +54,9 @@ module _ (g : Shape) (t : Tables) where
 
   -- One row more.
   pub passed_more :
-      {r total met : ℕ} → Passed g t r total → Met (4 * t.used) (ClassLists t (class_at_row g r)) (spans_in t (class_at_row g r)) met →
-      met ≤ 4 * t.used → MagazineSound t (class_at_row g r) → Passed g t (r + 1) (total + met)
-  passed_more {r} p m h z =
-      let s = m.sound h in
+      {r total met : ℕ} → Passed g t r total → ClassLists t (class_at_row g r) × (met ≡ spans_in t (class_at_row g r)) →
+      MagazineSound t (class_at_row g r) → Passed g t (r + 1) (total + met)
+  passed_more {r} p s z =
       record {
         counted = omega (arith, p.counted, s.1, joined_more g t r);
         each = below_more _ _ p.each (record { lists = s.0; magazine = z });

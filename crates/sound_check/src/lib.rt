@@ -18,18 +18,17 @@ fn class_at(sizes: &[u64], heap: u64, class: u64, row: u64, base: u64) -> ClassH
     requires class_in_bounds { class < length sizes.now }
     ensures { (most heaps n : ℕ) → row ≡ row_of (shape sizes.now most heaps n) heap class → base ≡ base_of (shape sizes.now most heaps n) heap class → result ≡ class_heap (shape sizes.now most heaps n) heap class }
 {
-    let at = class as usize;
-    let slot = sizes[at];
+    let slot = sizes[class as usize];
     let capacity = magazine_layout::capacity_for(slot);
     ClassHeap {
-        class: class,
+        class,
         owner: heap,
-        slot: slot,
+        slot,
         slots: size_classes::slots_per_span(slot),
-        capacity: capacity,
+        capacity,
         low: magazine_layout::low_water_for(capacity),
-        row: row,
-        base: base,
+        row,
+        base,
     }
 }
 
@@ -51,19 +50,16 @@ fn rows_sound(
     let rows = heaps * classes;
     let mut total: u64 = 0;
     let mut base: u64 = 0;
-    let mut r: u64 = 0;
-    while r < rows {
+    for r in 0..rows {
         let k = class_at(sizes, r / classes, r % classes, r, base);
-        let met = sound_lists::class_met(spans, heads, k, used);
-        if met > 4 * used {
+        let Some(met) = sound_lists::class_met(spans, heads, k, used) else {
             return false;
-        }
+        };
         if !sound_magazines::magazine_sound(bits, spans, entries, heads, k, used) {
             return false;
         }
         total += met;
         base += k.capacity;
-        r += 1;
     }
     total == used
 }
@@ -84,11 +80,7 @@ pub fn is_sound(
     requires right_lengths { RightLengths (shape sizes.now limit heaps limit) (table bits.now spans.now entries.now heads.now used) }
     ensures { (most : ℕ) → result ≡ is_sound (shape sizes.now most heaps limit) (table bits.now spans.now entries.now heads.now used) }
 {
-    if used > limit {
-        return false;
-    }
-    if !sound_spans::spans_filled(sizes, bits, spans, heaps, used) {
-        return false;
-    }
-    rows_sound(sizes, bits, spans, entries, heads, heaps, used)
+    used <= limit
+        && sound_spans::spans_filled(sizes, bits, spans, heaps, used)
+        && rows_sound(sizes, bits, spans, entries, heads, heaps, used)
 }

@@ -1,7 +1,7 @@
 -- The lists of one class by what their names say of counts, and a reserve's one span. Assumes nothing.
 use mathlib.Core.Path.{◌≡◌}
 use mathlib.Core.List.{List, [], ◌∷◌}
-use Prim.Native.Nat.{ℕ, ◌+◌, ◌*◌, ◌<◌, ◌≤◌}
+use Prim.Native.Nat.{ℕ, ◌+◌, ◌<◌, ◌≤◌}
 use native.Mathlib.Omega.{arith}
 use lib.ListN.{length}
 use Rattle.laws.specs.Links.{All, Chain}
@@ -10,7 +10,7 @@ use Rattle.tables.specs.declared.ClassHeap.{ClassHeap}
 use Rattle.tables.specs.Cells.{Tables, occupied_at, head_at, empty_list, reserve, partial_list, full_list, next_at, previous_at}
 use Rattle.linked_list.specs.Lists.{list_of}
 use Rattle.sound.specs.Sound.{ListSound, Partial, Full, Empty}
-use Rattle.sound_lists.specs.Walked.{Between, Met, ClassLists, spans_in}
+use Rattle.sound_lists.specs.Walked.{Between, ClassLists, spans_in}
 
 module _ (t : Tables) (k : ClassHeap) where
   -- A list under a name that says the same.
@@ -49,59 +49,41 @@ few_alone previous next (s ∷ []) p x c h = (c.1, tt)
 few_alone previous next (s ∷ (y ∷ l)) p x c h = absurd (let z : ⊥ = omega arith in z)
 
 -- ---- the four answers of a class
-module _ (t : Tables) (k : ClassHeap) {some all none kept : ℕ}
-    (ms : Met t.used (ListSound t k partial_list (Between 1 k.slots)) (length (list_of t k partial_list)) some)
-    (ma : Met t.used (ListSound t k full_list (Between k.slots (k.slots + 1))) (length (list_of t k full_list)) all)
-    (mn : Met t.used (ListSound t k empty_list (Between 0 1)) (length (list_of t k empty_list)) none)
-    (mk : Met t.used (ListSound t k reserve (Between 0 1)) (length (list_of t k reserve)) kept) where
+module _ (t : Tables) (k : ClassHeap) where
   -- All are right.
   pub class_right :
-      some ≤ t.used → all ≤ t.used → none ≤ t.used → kept ≤ t.used → kept ≤ 1 →
+      {partial full empty kept : ℕ} → ListSound t k partial_list (Between 1 k.slots) × (partial ≡ length (list_of t k partial_list)) →
+      ListSound t k full_list (Between k.slots (k.slots + 1)) × (full ≡ length (list_of t k full_list)) →
+      ListSound t k empty_list (Between 0 1) × (empty ≡ length (list_of t k empty_list)) →
+      ListSound t k reserve (Between 0 1) × (kept ≡ length (list_of t k reserve)) → kept ≤ 1 →
       (head_at t k empty_list ≡ head_at t k reserve → head_at t k reserve ≡ 0) →
-      Met (4 * t.used) (ClassLists t k) (spans_in t k) (some + all + none + kept)
-  class_right hs ha hn hk one apart =
-      let s = ms.sound hs in
-      let a = ma.sound ha in
-      let n = mn.sound hn in
-      let o = mk.sound hk in
-      record {
-        sound =
-            λ h. (
-              record {
-                partial = list_as t k {P = Between 1 k.slots} {Q = Partial k} (λ m b. b) s.0;
-                full = list_as t k (full_of t k) a.0;
-                empty = list_as t k (empty_of t k) n.0;
-                kept = list_as t k (empty_of t k) o.0;
-                alone = few_alone (previous_at t) (next_at t) (list_of t k reserve) 0 (head_at t k reserve) o.0.linked (omega (arith, o.1));
-                apart = apart;
-              },
-              omega (arith, s.1, a.1, n.1, o.1),
-            );
-        fault = λ h w. let z : ⊥ = omega arith in z;
-      }
+      ClassLists t k × (partial + full + empty + kept ≡ spans_in t k)
+  class_right s a n o one apart = (
+    record {
+      partial = list_as t k {P = Between 1 k.slots} {Q = Partial k} (λ m b. b) s.0;
+      full = list_as t k (full_of t k) a.0;
+      empty = list_as t k (empty_of t k) n.0;
+      kept = list_as t k (empty_of t k) o.0;
+      alone = few_alone (previous_at t) (next_at t) (list_of t k reserve) 0 (head_at t k reserve) o.0.linked (omega (arith, o.1));
+      apart = apart;
+    },
+    omega (arith, s.1, a.1, n.1, o.1),
+  )
 
--- One is not.
-module _ (t : Tables) (k : ClassHeap) {n : ℕ} where
-  pub some_fault :
-      Met t.used (ListSound t k partial_list (Between 1 k.slots)) (length (list_of t k partial_list)) n → t.used < n → ClassLists t k → ⊥
-  some_fault m h w = m.fault h (list_as t k {P = Partial k} {Q = Between 1 k.slots} (λ i b. b) w.partial)
+  -- One is not.
+  pub partial_fault : (ListSound t k partial_list (Between 1 k.slots) → ⊥) → ClassLists t k → ⊥
+  partial_fault n w = n (list_as t k {P = Partial k} {Q = Between 1 k.slots} (λ i b. b) w.partial)
 
-  pub all_fault :
-      Met t.used (ListSound t k full_list (Between k.slots (k.slots + 1))) (length (list_of t k full_list)) n → t.used < n → ClassLists t k → ⊥
-  all_fault m h w = m.fault h (list_as t k (of_full t k) w.full)
+  pub full_fault : (ListSound t k full_list (Between k.slots (k.slots + 1)) → ⊥) → ClassLists t k → ⊥
+  full_fault n w = n (list_as t k (of_full t k) w.full)
 
-  pub none_fault : Met t.used (ListSound t k empty_list (Between 0 1)) (length (list_of t k empty_list)) n → t.used < n → ClassLists t k → ⊥
-  none_fault m h w = m.fault h (list_as t k (of_empty t k) w.empty)
+  pub empty_fault : (ListSound t k empty_list (Between 0 1) → ⊥) → ClassLists t k → ⊥
+  empty_fault n w = n (list_as t k (of_empty t k) w.empty)
 
-  pub kept_fault : Met t.used (ListSound t k reserve (Between 0 1)) (length (list_of t k reserve)) n → t.used < n → ClassLists t k → ⊥
-  kept_fault m h w = m.fault h (list_as t k (of_empty t k) w.kept)
+  pub kept_fault : (ListSound t k reserve (Between 0 1) → ⊥) → ClassLists t k → ⊥
+  kept_fault n w = n (list_as t k (of_empty t k) w.kept)
 
-  pub more_fault :
-      Met t.used (ListSound t k reserve (Between 0 1)) (length (list_of t k reserve)) n → n ≤ t.used → 1 < n → ClassLists t k → ⊥
-  more_fault m hk h w =
+  pub more_fault : {n : ℕ} → n ≡ length (list_of t k reserve) → 1 < n → ClassLists t k → ⊥
+  more_fault e h w =
       let z : ⊥ =
-      omega (arith, (m.sound hk).1, alone_few (previous_at t) (next_at t) (list_of t k reserve) 0 (head_at t k reserve) w.kept.linked w.alone) in z
-
--- A mark above the bound says that the lists are not right.
-pub fault_of : {bound number : ℕ} {P : Type 0} → (P → ⊥) → Met bound P number (bound + 1)
-fault_of n = record { sound = λ h. absurd (let z : ⊥ = omega arith in z); fault = λ h p. n p }
+      omega (arith, e, alone_few (previous_at t) (next_at t) (list_of t k reserve) 0 (head_at t k reserve) w.kept.linked w.alone) in z

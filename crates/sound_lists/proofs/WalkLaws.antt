@@ -1,7 +1,7 @@
 -- The walk of one list: after so many steps the list is right exactly where the rest of it is. Assumes nothing.
-use mathlib.Core.Path.{◌≡◌, sym, ap, subst}
+use mathlib.Core.Path.{◌≡◌, refl, sym, ap, subst}
 use mathlib.Core.List.{List, [], ◌∷◌}
-use Prim.Native.Nat.{ℕ, suc, ◌+◌, ◌-◌, ◌*◌, ◌<◌, ◌≤◌}
+use Prim.Native.Nat.{ℕ, zero, suc, ◌+◌, ◌-◌, ◌*◌, ◌<◌, ◌≤◌}
 use native.Mathlib.Nat.{mul-le-mul_right}
 use native.Mathlib.Omega.{arith}
 use lib.ListN.{length}
@@ -23,6 +23,17 @@ record_there {s = s} u h = record { there = omega (arith, mul-le-mul_right {m = 
 pub used_small : {spans : List ℕ} {used : ℕ} → UsedFields spans used → 5 * used ≤ length spans
 unfolding record_cells
 used_small u = omega (arith, u.there)
+
+-- A walk meets no more spans than it has steps, so a list has no more than are used.
+walk_few : (t : Tables) (n x : ℕ) → length (walk (next_at t) n x) ≤ n
+unfolding walk
+walk_few t n zero = omega (arith, ap (λ (l : List ℕ). length l) (walk_none (previous_at t) (next_at t) n 0 refl))
+walk_few t zero (suc x) = omega arith
+walk_few t (suc n) (suc x) =
+    omega (arith, ap (λ (l : List ℕ). length l) (walk_some (previous_at t) (next_at t) n (suc x) x (omega arith)), walk_few t n (next_at t x))
+
+pub list_few : (t : Tables) (k : ClassHeap) (f : ℕ) → length (list_of t k f) ≤ t.used
+list_few t k f = walk_few t t.used (head_at t k f)
 
 module _ (t : Tables) (k : ClassHeap) (f low high : ℕ) where
   -- the list as the walk decides it

@@ -1,5 +1,5 @@
 -- What the walk of a list asks of each span, and what its answer says. Assumes nothing.
-use Rattle.std.specs.Prelude.{◌≡◌, List, ℕ, ◌+◌, ◌*◌, ◌<◌, ◌≤◌, length}
+use Rattle.std.specs.Prelude.{◌≡◌, List, ℕ, ◌+◌, ◌*◌, ◌<◌, ◌≤◌, length, Option, None, Some}
 use Rattle.laws.specs.Links.{All}
 use Rattle.size_classes.specs.Slots.{most_slots}
 use Rattle.tables.specs.declared.ClassHeap.{ClassHeap}
@@ -22,10 +22,10 @@ pub record Fits (t : Tables) (k : ClassHeap) (low high p s : ℕ) : Type 0 where
   pub back : previous_at t s ≡ p
   pub named : Between low high (occupied_at t s)
 
--- an answer up to the bound says that P holds, and is the number; one above it, that P does not hold
-pub record Met (bound : ℕ) (P : Type 0) (number r : ℕ) : Type 0 where
-  pub sound : r ≤ bound → P × (r ≡ number)
-  pub fault : bound < r → P → ⊥
+-- no number says that P does not hold; a number, that P holds, and that it is the number
+abbrev pub WalkAnswer : Type 0 → ℕ → Option ℕ → Type 0
+WalkAnswer P number None = P → ⊥
+WalkAnswer P number (Some n) = P × (n ≡ number)
 
 -- the lists and the reserve of one class of one heap, as soundness asks them to be; and no span stands both in the reserve and on the empty list
 pub record ClassLists (t : Tables) (k : ClassHeap) : Type 0 where

@@ -1,12 +1,12 @@
 // The check of the lists: each is walked once from its head, and the spans met are counted.
 #![tactic(auto)]
 
-ghost use Rattle.std.specs.Prelude.{List, ℕ, ◌+◌, ◌*◌, ◌<◌, length};
+ghost use Rattle.std.specs.Prelude.{List, ℕ, ◌<◌, length};
 ghost use Rattle.laws.specs.Choice.{Says};
 ghost use Rattle.tables.specs.Cells.{tables as table, head_cell};
 ghost use Rattle.linked_list.specs.Lists.{list_of};
 ghost use Rattle.sound.specs.Sound.{ListSound};
-ghost use Rattle.sound_lists.specs.Walked.{UsedFields, Fits, Between, Met, ClassLists, spans_in, ClassCells};
+ghost use Rattle.sound_lists.specs.Walked.{UsedFields, Fits, Between, WalkAnswer, ClassLists, spans_in, ClassCells};
 
 use tables::ClassHeap;
 
@@ -46,16 +46,10 @@ fn link_fits(spans: &[u64], k: ClassHeap, s: u64, p: u64, low: u64, high: u64, u
         return false;
     }
     let n = tables::field(spans, s, OCCUPIED);
-    if n < low {
-        return false;
-    }
-    if n >= high {
-        return false;
-    }
-    true
+    low <= n && n < high
 }
 
-// How many spans list f holds, each with a count from low on and below high; one more than there are where the list is not right.
+// How many spans list f holds, each with a count from low on and below high; none where the list is not right.
 fn list_met(
     spans: &[u64],
     heads: &[u64],
@@ -64,60 +58,45 @@ fn list_met(
     low: u64,
     high: u64,
     used: u64,
-) -> u64
+) -> Option<u64>
     requires used_fields { UsedFields spans.now used }
     requires f_in_bounds { head_cell k.row f < length heads.now }
-    ensures { (b e : List ℕ) → Met used (ListSound (table b spans.now e heads.now used) k f (Between low high)) (length (list_of (table b spans.now e heads.now used) k f)) result }
+    ensures { (b e : List ℕ) → WalkAnswer (ListSound (table b spans.now e heads.now used) k f (Between low high)) (length (list_of (table b spans.now e heads.now used) k f)) result }
 {
     let mut x = tables::head(heads, k.row, f);
     let mut p: u64 = 0;
     let mut met: u64 = 0;
     while x != 0 {
         if met == used {
-            return used + 1;
+            return None;
         }
         if !link_fits(spans, k, x - 1, p, low, high, used) {
-            return used + 1;
+            return None;
         }
         p = x;
         x = tables::field(spans, x - 1, NEXT);
         met += 1;
     }
-    met
+    Some(met)
 }
 
-// How many spans the lists and the reserve of a class of a heap hold; one more than four times the used spans where they are not right.
-pub fn class_met(spans: &[u64], heads: &[u64], k: ClassHeap, used: u64) -> u64
+// How many spans the lists and the reserve of a class of a heap hold; none where they are not right.
+pub fn class_met(spans: &[u64], heads: &[u64], k: ClassHeap, used: u64) -> Option<u64>
     requires used_fields { UsedFields spans.now used }
     requires class_cells { ClassCells heads.now k }
-    ensures { (b e : List ℕ) → Met (4 * used) (ClassLists (table b spans.now e heads.now used) k) (spans_in (table b spans.now e heads.now used) k) result }
+    ensures { (b e : List ℕ) → WalkAnswer (ClassLists (table b spans.now e heads.now used) k) (spans_in (table b spans.now e heads.now used) k) result }
 {
-    let unsound = 4 * used + 1;
-    let some = list_met(spans, heads, k, PARTIAL, 1, k.slots, used);
-    if some > used {
-        return unsound;
-    }
-    let all = list_met(spans, heads, k, FULL, k.slots, k.slots + 1, used);
-    if all > used {
-        return unsound;
-    }
-    let none = list_met(spans, heads, k, EMPTY, 0, 1, used);
-    if none > used {
-        return unsound;
-    }
-    let kept = list_met(spans, heads, k, RESERVE, 0, 1, used);
-    if kept > used {
-        return unsound;
-    }
+    let partial = list_met(spans, heads, k, PARTIAL, 1, k.slots, used)?;
+    let full = list_met(spans, heads, k, FULL, k.slots, k.slots + 1, used)?;
+    let empty = list_met(spans, heads, k, EMPTY, 0, 1, used)?;
+    let kept = list_met(spans, heads, k, RESERVE, 0, 1, used)?;
     if kept > 1 {
-        return unsound;
+        return None;
     }
     let first = tables::head(heads, k.row, RESERVE);
-    if first == 0 {
-        return some + all + none + kept;
+    let apart = first == 0 || tables::head(heads, k.row, EMPTY) != first;
+    if !apart {
+        return None;
     }
-    if tables::head(heads, k.row, EMPTY) == first {
-        return unsound;
-    }
-    some + all + none + kept
+    Some(partial + full + empty + kept)
 }

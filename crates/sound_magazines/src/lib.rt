@@ -37,10 +37,8 @@ fn entry_sound(bits: &[u64], spans: &[u64], k: ClassHeap, used: u64, e: u64) -> 
     if q >= k.slots {
         return false;
     }
-    if !bits::test_bit(tables::word(bits, s, LOCAL_WORDS + q / 64), q % 64) {
-        return false;
-    }
-    !bits::test_bit(tables::word(bits, s, REMOTE_WORDS + q / 64), q % 64)
+    bits::test_bit(tables::word(bits, s, LOCAL_WORDS + q / 64), q % 64)
+        && !bits::test_bit(tables::word(bits, s, REMOTE_WORDS + q / 64), q % 64)
 }
 
 // Whether the magazine is right, left at the first entry that is not.
@@ -62,22 +60,18 @@ pub fn magazine_sound(
         return false;
     }
     let mut ok = true;
-    let mut j: u64 = 0;
-    'entries: while j < n {
+    'entries: for j in 0..n {
         let e = tables::entry(entries, k.base, j);
         if !entry_sound(bits, spans, k, used, e) {
             ok = false;
             break 'entries;
         }
-        let mut i: u64 = 0;
-        while i < j {
+        for i in 0..j {
             if tables::entry(entries, k.base, i) == e {
                 ok = false;
                 break 'entries;
             }
-            i += 1;
         }
-        j += 1;
     }
     ok
 }

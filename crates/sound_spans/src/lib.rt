@@ -31,13 +31,7 @@ fn pad_of(slots: u64, i: u64) -> u64
     ensures { result ≡ pad_of slots i }
 {
     let from = i * 64;
-    if slots <= from {
-        return bits::ones_from(0);
-    }
-    if slots - from >= 64 {
-        return bits::ones_from(64);
-    }
-    bits::ones_from(slots - from)
+    bits::ones_from(slots.saturating_sub(from).min(64))
 }
 
 // Whether word i of a span is right: x its local and p its remote word.
@@ -45,20 +39,12 @@ fn word_sound(slots: u64, summary: u64, pending: u64, i: u64, x: u64, p: u64) ->
     requires { i < 64 }
     ensures { Says result (WordSound slots summary pending i x p) }
 {
-    if bits::test_bit(summary, i) != (x == u64::MAX) {
-        return false;
-    }
-    if bits::test_bit(pending, i) != (p != 0) {
-        return false;
-    }
     let pad = pad_of(slots, i);
-    if x & pad != pad {
-        return false;
-    }
-    if p & pad != 0 {
-        return false;
-    }
-    p & x == p
+    bits::test_bit(summary, i) == (x == u64::MAX)
+        && bits::test_bit(pending, i) == (p != 0)
+        && x & pad == pad
+        && p & pad == 0
+        && p & x == p
 }
 
 // Whether the cells of every used span are right, left at the first word or cell that is not.
@@ -68,8 +54,7 @@ pub fn spans_filled(sizes: &[u64], bits: &[u64], spans: &[u64], heaps: u64, used
     ensures { (e h : List ℕ) (most n : ℕ) → Says result ((s : ℕ) → s < used → SpanFilled (shape sizes.now most heaps n) (table bits.now spans.now e h used) s) }
 {
     let mut ok = true;
-    let mut s: u64 = 0;
-    'spans: while s < used {
+    'spans: for s in 0..used {
         let class = tables::field(spans, s, CLASS);
         if class >= sizes.len() as u64 {
             ok = false;
@@ -84,8 +69,7 @@ pub fn spans_filled(sizes: &[u64], bits: &[u64], spans: &[u64], heaps: u64, used
         let summary = tables::word(bits, s, LOCAL_SUMMARY);
         let pending = tables::word(bits, s, REMOTE_SUMMARY);
         let mut sum: u64 = 0;
-        let mut i: u64 = 0;
-        while i < 64 {
+        for i in 0..64 {
             let x = tables::word(bits, s, LOCAL_WORDS + i);
             let p = tables::word(bits, s, REMOTE_WORDS + i);
             if !word_sound(slots, summary, pending, i, x, p) {
@@ -93,13 +77,11 @@ pub fn spans_filled(sizes: &[u64], bits: &[u64], spans: &[u64], heaps: u64, used
                 break 'spans;
             }
             sum += bits::count(x);
-            i += 1;
         }
         if sum - (MOST_SLOTS - slots) != tables::field(spans, s, OCCUPIED) {
             ok = false;
             break 'spans;
         }
-        s += 1;
     }
     ok
 }

@@ -116,10 +116,8 @@ pub extern "C" fn laggersten_summary(
 {
     let s = count_all(heaps, spans, bits, records, entries, heads, used, out.len());
     let n = turns_of(s);
-    let mut i = 0;
-    while i < n {
-        out[i] = record_of(s, i);
-        i += 1;
+    for (i, record) in out[..n].iter_mut().enumerate() {
+        *record = record_of(s, i);
     }
     number_of(s)
 }

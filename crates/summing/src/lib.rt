@@ -70,10 +70,8 @@ pub fn pending(bits: &[u64], s: u64) -> u64
     ensures { result ≡ pending_in bits.now s 64 }
 {
     let mut total: u64 = 0;
-    let mut i: u64 = 0;
-    while i < 64 {
+    for i in 0..64 {
         total += bits::count(tables::word(bits, s, REMOTE_WORDS + i));
-        i += 1;
     }
     total
 }
@@ -97,10 +95,8 @@ fn add_spans(classes: u64, bits: &[u64], spans: &[u64], used: u64, out: &mut [u6
     requires tallied { Tallied classes bits.now spans.now 0 out.old }
     ensures { Tallied classes bits.now spans.now used out.new }
 {
-    let mut s: u64 = 0;
-    while s < used {
+    for s in 0..used {
         add_span(bits, spans, s, out);
-        s += 1;
     }
 }
 
@@ -111,10 +107,8 @@ fn cached(classes: u64, heads: &[u64], heaps: u64, c: u64) -> u64
     ensures { result ≡ cached_in heads.now classes heaps c }
 {
     let mut total: u64 = 0;
-    let mut h: u64 = 0;
-    while h < heaps {
+    for h in 0..heaps {
         total += tables::head(heads, h * classes + c, COUNT);
-        h += 1;
     }
     total
 }
@@ -139,11 +133,8 @@ fn write_classes(sizes: &[u64], heads: &[u64], heaps: u64, out: &mut [u64])
     requires classes_fit { ClassesFit sizes.now heads.now heaps out.old }
     ensures { Written sizes.now heads.now heaps out.old (length sizes.now) out.new }
 {
-    let classes = sizes.len() as u64;
-    let mut c: u64 = 0;
-    while c < classes {
+    for c in 0..sizes.len() as u64 {
         write_class(sizes, heads, heaps, c, out);
-        c += 1;
     }
 }
 

@@ -14,8 +14,7 @@ use Rattle.tables.proofs.MagazineCells.{rows_small, bases_small, base_within}
 use Rattle.magazine.specs.Room.{Counted}
 use Rattle.sound.specs.Sound.{MagazineSound}
 use Rattle.sound_spans.proofs.TestLaws.{granted, refuted, says_eqb}
-use Rattle.sound_lists.specs.Walked.{ClassLists, spans_in, ClassCells, Met}
-use Rattle.sound_lists.proofs.WalkLaws.{used_small}
+use Rattle.sound_lists.specs.Walked.{ClassLists, spans_in, ClassCells}
 use Rattle.sound_check.proofs.BaseTurns.{row_at, base_first, base_next, capacity_at}
 use Rattle.sound_check.proofs.RowTurns.{fields_used, heads_there, entries_there, row_heap, passed_none, passed_few, passed_more, all_rows, rows_all}
 use Rattle.sound_check.proofs.rows_sound.Goals as goal
@@ -42,7 +41,7 @@ pub overflow_mul-rows : goal.overflow_mul-rows
 overflow_mul-rows c = omega (arith, few_rows c.requires.admissible c.requires.row_cells.few)
 
 pub loop-r-init : goal.loop-r-init
-loop-r-init c = record { within = omega arith; bases = λ most n. base_first _ c.requires.admissible.some; passed = λ most n. passed_none _ _ }
+loop-r-init c = record { bases = λ most n. base_first _ c.requires.admissible.some; passed = λ most n. passed_none _ _ }
 
 pub nonzero_div-r : goal.nonzero_div-r
 nonzero_div-r c = omega (arith, c.requires.admissible.some)
@@ -57,19 +56,16 @@ class_at-k-requires c =
       class_in_bounds = mod-lt c.loop-r.r c.requires.admissible.some;
     }
 
-pub class_met-met-requires : goal.class_met-met-requires
-class_met-met-requires c =
+pub class_met-requires : goal.class_met-requires
+class_met-requires c =
     record {
       used_fields = fields_used c.requires.row_cells;
       class_cells = subst (ClassCells c.args.heads.now) (sym (c.class_at-k.ensures 0 c.args.heaps 0 (row_at (shape c.args.sizes.now 0 c.args.heaps 0) c.loop-r.r) (c.loop-r.invariant.bases 0 0))) (heads_there c.requires.row_cells 0 0 (row_heap c.requires.admissible.some c.loop-r-test.true) (mod-lt c.loop-r.r c.requires.admissible.some));
     }
 
-pub overflow_mul-used : goal.overflow_mul-used
-overflow_mul-used c = omega (arith, used_small (fields_used c.requires.row_cells))
-
-pub returns-then-met-used : goal.returns-then-met-used
-returns-then-met-used c most n w =
-    (c.class_met-met.ensures c.args.bits.now c.args.entries.now).fault c.if-met-used.true
+pub returns-in_default : goal.returns-in_default
+returns-in_default c most n w =
+    c.in_default.ensures c.args.bits.now c.args.entries.now
     (subst (ClassLists (tables c.args.bits.now c.args.spans.now c.args.entries.now c.args.heads.now c.args.used)) (sym (c.class_at-k.ensures most c.args.heaps n (row_at (shape c.args.sizes.now most c.args.heaps n) c.loop-r.r) (c.loop-r.invariant.bases most n))) (w.each c.loop-r.r c.loop-r-test.true).lists)
 
 pub magazine_sound-requires : goal.magazine_sound-requires
@@ -85,7 +81,7 @@ magazine_sound-requires c =
 
 pub returns-then-not-magazine_sound : goal.returns-then-not-magazine_sound
 returns-then-not-magazine_sound c most n w =
-    refuted c.magazine_sound.result c.magazine_sound.ensures c.if-not-magazine_sound.true-raw
+    refuted c.magazine_sound.result c.magazine_sound.ensures c.if-not-magazine_sound.true
     (subst (MagazineSound (tables c.args.bits.now c.args.spans.now c.args.entries.now c.args.heads.now c.args.used)) (sym (c.class_at-k.ensures most c.args.heaps n (row_at (shape c.args.sizes.now most c.args.heaps n) c.loop-r.r) (c.loop-r.invariant.bases most n))) (w.each c.loop-r.r c.loop-r-test.true).magazine)
 
 pub overflow_add-total : goal.overflow_add-total
@@ -94,9 +90,8 @@ overflow_add-total c = omega (
   passed_few _ _ (let t = tables c.args.bits.now c.args.spans.now c.args.entries.now c.args.heads.now c.args.used in
       let e = c.class_at-k.ensures 0 c.args.heaps 0 (row_at (shape c.args.sizes.now 0 c.args.heaps 0) c.loop-r.r) (c.loop-r.invariant.bases 0 0) in
       passed_more (shape c.args.sizes.now 0 c.args.heaps 0) t (c.loop-r.invariant.passed 0 0)
-      (subst (λ (k : ClassHeap). Met (4 * c.args.used) (ClassLists t k) (spans_in t k) c.class_met-met.result) e (c.class_met-met.ensures c.args.bits.now c.args.entries.now))
-      c.if-met-used.false
-      (subst (MagazineSound t) e (granted c.magazine_sound.result c.magazine_sound.ensures c.if-not-magazine_sound.false-raw))),
+      (subst (λ (k : ClassHeap). ClassLists t k × (c.in-Some.met ≡ spans_in t k)) e (c.in-Some.ensures c.args.bits.now c.args.entries.now))
+      (subst (MagazineSound t) e (granted c.magazine_sound.result c.magazine_sound.ensures c.if-not-magazine_sound.false))),
   c.ranges.used.fits,
 )
 
@@ -109,25 +104,20 @@ overflow_add-base c =
           ∙ capacity_at (shape c.args.sizes.now 0 c.args.heaps 0) (c.loop-r.r / length c.args.sizes.now) (c.loop-r.r % length c.args.sizes.now));
     }
 
-pub overflow_add-r : goal.overflow_add-r
-overflow_add-r c = omega (arith, few_rows c.requires.admissible c.requires.row_cells.few, c.loop-r-test.true)
-
 pub loop-r-preserved : goal.loop-r-preserved
 loop-r-preserved c =
     record {
-      within = omega (arith, c.loop-r-test.true);
       bases = λ most n. ap₂ ◌+◌ (c.loop-r.invariant.bases most n) (ap (λ (k : ClassHeap). k.capacity) (c.class_at-k.ensures most c.args.heaps n (row_at (shape c.args.sizes.now most c.args.heaps n) c.loop-r.r) (c.loop-r.invariant.bases most n))
           ∙ capacity_at (shape c.args.sizes.now most c.args.heaps n) (c.loop-r.r / length c.args.sizes.now) (c.loop-r.r % length c.args.sizes.now)) ∙ base_next (shape c.args.sizes.now most c.args.heaps n) c.requires.admissible.some c.loop-r.r;
       passed = λ most n. let t = tables c.args.bits.now c.args.spans.now c.args.entries.now c.args.heads.now c.args.used in
           let e = c.class_at-k.ensures most c.args.heaps n (row_at (shape c.args.sizes.now most c.args.heaps n) c.loop-r.r) (c.loop-r.invariant.bases most n) in
           passed_more (shape c.args.sizes.now most c.args.heaps n) t (c.loop-r.invariant.passed most n)
-          (subst (λ (k : ClassHeap). Met (4 * c.args.used) (ClassLists t k) (spans_in t k) c.class_met-met.result) e (c.class_met-met.ensures c.args.bits.now c.args.entries.now))
-          c.if-met-used.false
-          (subst (MagazineSound t) e (granted c.magazine_sound.result c.magazine_sound.ensures c.if-not-magazine_sound.false-raw));
+          (subst (λ (k : ClassHeap). ClassLists t k × (c.in-Some.met ≡ spans_in t k)) e (c.in-Some.ensures c.args.bits.now c.args.entries.now))
+          (subst (MagazineSound t) e (granted c.magazine_sound.result c.magazine_sound.ensures c.if-not-magazine_sound.false));
     }
 
 pub returns : goal.returns
 returns c most n =
-    let e : c.loop-r.r ≡ c.args.heaps * length c.args.sizes.now = omega (arith, c.loop-r.invariant.within, c.loop-r-test.false) in
+    let e : c.loop-r.r ≡ c.args.heaps * length c.args.sizes.now = omega (arith, c.loop-r-test.false) in
     let p = c.loop-r.invariant.passed most n in
     says_eqb c.loop-r.total c.args.used (λ q. all_rows (shape c.args.sizes.now most c.args.heaps n) (tables c.args.bits.now c.args.spans.now c.args.entries.now c.args.heads.now c.args.used) e p q) (λ w. rows_all (shape c.args.sizes.now most c.args.heaps n) (tables c.args.bits.now c.args.spans.now c.args.entries.now c.args.heads.now c.args.used) e p w)

@@ -1,108 +1,80 @@
 -- `sound_lists::class_met` meets its contract: four walks, and the reserve's span apart from the empty list. Assumes nothing.
-use mathlib.Core.Path.{sym, ◌∙◌}
-use mathlib.Core.List.{List}
+use borrow.Author.Tests.{eq-eqb}
+use mathlib.Core.Path.{sym, ap, ◌∙◌}
+use mathlib.Core.Bool.{not, true≢false}
+use mathlib.Core.List.{List, []}
 use Prim.Native.Nat.{ℕ, ◌+◌, ◌^◌, ◌<◌}
 use native.Mathlib.Omega.{arith}
 use Rattle.size_classes.specs.Slots.{most_slots}
 use Rattle.tables.specs.declared.ClassHeap.{ClassHeap}
-use Rattle.tables.specs.Cells.{tables}
+use Rattle.tables.specs.Cells.{tables, partial_list, full_list, empty_list}
 use Rattle.sound_lists.specs.Walked.{ClassCells}
-use Rattle.sound_lists.proofs.WalkLaws.{used_small}
-use Rattle.sound_lists.proofs.ClassTests.{class_right, some_fault, all_fault, none_fault, kept_fault, more_fault, fault_of}
+use Rattle.sound_lists.proofs.WalkLaws.{used_small, list_few}
+use Rattle.sound_lists.proofs.ClassTests.{class_right, full_fault, empty_fault, kept_fault, more_fault}
 use Rattle.sound_lists.proofs.class_met.Goals as goal
+use Rattle.sound_lists.proofs.class_met.Goals.{Else-not-apart, then-first-eq0, else-first-eq0}
 
 -- A span has fewer slots than a word has numbers.
 slots_small : {heads : List ℕ} {k : ClassHeap} → ClassCells heads k → k.slots + 1 < 2 ^ 64
 unfolding most_slots
 slots_small o = omega (arith, o.slots)
 
-pub overflow_mul-unsound : goal.overflow_mul-unsound
-overflow_mul-unsound c = omega (arith, used_small c.requires.used_fields)
-
-pub overflow_add-unsound : goal.overflow_add-unsound
-overflow_add-unsound c = omega (arith, used_small c.requires.used_fields)
-
-pub list_met-some-requires : goal.list_met-some-requires
-list_met-some-requires c =
-    record {
-      used_fields = c.requires.used_fields;
-      f_in_bounds = c.requires.class_cells.rows _ (omega arith);
-    }
-
-pub returns-then-some-used : goal.returns-then-some-used
-returns-then-some-used c b e = fault_of (some_fault (tables b c.args.spans.now e c.args.heads.now c.args.used) c.args.k (c.list_met-some.ensures b e) c.if-some-used.true)
-
 pub overflow_add-k : goal.overflow_add-k
 overflow_add-k c = omega (arith, slots_small c.requires.class_cells)
 
-pub list_met-all-requires : goal.list_met-all-requires
-list_met-all-requires c =
-    record {
-      used_fields = c.requires.used_fields;
-      f_in_bounds = c.requires.class_cells.rows _ (omega arith);
-    }
+pub returns-in_err-full : goal.returns-in_err-full
+returns-in_err-full c b e =
+    rw c.from_residual-in_err-full.ensures
+    (full_fault (tables b c.args.spans.now e c.args.heads.now c.args.used) c.args.k (c.in_err-full.ensures b e))
 
-pub returns-then-all-used : goal.returns-then-all-used
-returns-then-all-used c b e = fault_of (all_fault (tables b c.args.spans.now e c.args.heads.now c.args.used) c.args.k (c.list_met-all.ensures b e) c.if-all-used.true)
+pub returns-in_err-empty : goal.returns-in_err-empty
+returns-in_err-empty c b e =
+    rw c.from_residual-in_err-empty.ensures
+    (empty_fault (tables b c.args.spans.now e c.args.heads.now c.args.used) c.args.k (c.in_err-empty.ensures b e))
 
-pub list_met-none-requires : goal.list_met-none-requires
-list_met-none-requires c =
-    record {
-      used_fields = c.requires.used_fields;
-      f_in_bounds = c.requires.class_cells.rows _ (omega arith);
-    }
-
-pub returns-then-none-used : goal.returns-then-none-used
-returns-then-none-used c b e = fault_of (none_fault (tables b c.args.spans.now e c.args.heads.now c.args.used) c.args.k (c.list_met-none.ensures b e) c.if-none-used.true)
-
-pub list_met-kept-requires : goal.list_met-kept-requires
-list_met-kept-requires c =
-    record {
-      used_fields = c.requires.used_fields;
-      f_in_bounds = c.requires.class_cells.rows _ (omega arith);
-    }
-
-pub returns-then-kept-used : goal.returns-then-kept-used
-returns-then-kept-used c b e = fault_of (kept_fault (tables b c.args.spans.now e c.args.heads.now c.args.used) c.args.k (c.list_met-kept.ensures b e) c.if-kept-used.true)
+pub returns-in_err-kept : goal.returns-in_err-kept
+returns-in_err-kept c b e =
+    rw c.from_residual-in_err-kept.ensures
+    (kept_fault (tables b c.args.spans.now e c.args.heads.now c.args.used) c.args.k (c.in_err-kept.ensures b e))
 
 pub returns-then-kept-gt1 : goal.returns-then-kept-gt1
-returns-then-kept-gt1 c b e = fault_of (more_fault (tables b c.args.spans.now e c.args.heads.now c.args.used) c.args.k (c.list_met-kept.ensures b e) c.if-kept-used.false c.if-kept-gt1.true)
+returns-then-kept-gt1 c b e =
+    more_fault (tables b c.args.spans.now e c.args.heads.now c.args.used) c.args.k (c.in_ok-kept.ensures b e).1 c.if-kept-gt1.true
 
-pub head-first-requires : goal.head-first-requires
-head-first-requires c = c.requires.class_cells.rows _ (omega arith)
+-- No list has more spans than are used, so the sum of all fits.
+all_fit : (c : Else-not-apart) → c.in_ok-partial.partial + c.in_ok-full.full + c.in_ok-empty.empty + c.in_ok-kept.kept < 2 ^ 64
+all_fit c =
+    let a = c.args in
+    let t = tables [] a.spans.now [] a.heads.now a.used in
+    omega (
+      arith,
+      used_small c.requires.used_fields,
+      (c.in_ok-partial.ensures [] []).1,
+      list_few t a.k partial_list,
+      (c.in_ok-full.ensures [] []).1,
+      list_few t a.k full_list,
+      (c.in_ok-empty.ensures [] []).1,
+      list_few t a.k empty_list,
+    )
 
 pub overflow_add-result : goal.overflow_add-result
-overflow_add-result c = omega (arith, used_small c.requires.used_fields, c.if-some-used.false, c.if-all-used.false)
-
-pub overflow_add-result-then-first-eq0 : goal.overflow_add-result-then-first-eq0
-overflow_add-result-then-first-eq0 c = omega (arith, used_small c.requires.used_fields, c.if-some-used.false, c.if-all-used.false, c.if-none-used.false)
-
-pub overflow_add-result-then-first-eq0-2 : goal.overflow_add-result-then-first-eq0-2
-overflow_add-result-then-first-eq0-2 c = omega (arith, used_small c.requires.used_fields, c.if-some-used.false, c.if-all-used.false, c.if-none-used.false, c.if-kept-used.false)
-
-pub returns-then-first-eq0 : goal.returns-then-first-eq0
-returns-then-first-eq0 c b e =
-    class_right (tables b c.args.spans.now e c.args.heads.now c.args.used) c.args.k (c.list_met-some.ensures b e) (c.list_met-all.ensures b e) (c.list_met-none.ensures b e) (c.list_met-kept.ensures b e)
-    c.if-some-used.false c.if-all-used.false c.if-none-used.false c.if-kept-used.false c.if-kept-gt1.false (λ z. sym c.head-first.ensures ∙ c.if-first-eq0.true)
-
-pub head-requires : goal.head-requires
-head-requires c = c.requires.class_cells.rows _ (omega arith)
-
-pub returns-then-head-first : goal.returns-then-head-first
-returns-then-head-first c b e =
-    fault_of (λ w. c.if-first-eq0.false (c.head-first.ensures ∙ w.apart (sym c.head.ensures ∙ c.if-head-first.true ∙ c.head-first.ensures)))
+overflow_add-result c = omega (arith, all_fit c)
 
 pub overflow_add-result-2 : goal.overflow_add-result-2
-overflow_add-result-2 c = omega (arith, used_small c.requires.used_fields, c.if-some-used.false, c.if-all-used.false)
+overflow_add-result-2 c = omega (arith, all_fit c)
 
 pub overflow_add-result-3 : goal.overflow_add-result-3
-overflow_add-result-3 c = omega (arith, used_small c.requires.used_fields, c.if-some-used.false, c.if-all-used.false, c.if-none-used.false)
-
-pub overflow_add-result-4 : goal.overflow_add-result-4
-overflow_add-result-4 c = omega (arith, used_small c.requires.used_fields, c.if-some-used.false, c.if-all-used.false, c.if-none-used.false, c.if-kept-used.false)
+overflow_add-result-3 c = omega (arith, all_fit c)
 
 pub returns : goal.returns
 returns c b e =
-    class_right (tables b c.args.spans.now e c.args.heads.now c.args.used) c.args.k (c.list_met-some.ensures b e) (c.list_met-all.ensures b e) (c.list_met-none.ensures b e) (c.list_met-kept.ensures b e)
-    c.if-some-used.false c.if-all-used.false c.if-none-used.false c.if-kept-used.false c.if-kept-gt1.false
-    (λ z. absurd (c.if-head-first.false (c.head.ensures ∙ z ∙ sym c.head-first.ensures)))
+    let a = c.args in
+    let t = tables b a.spans.now e a.heads.now a.used in
+    class_right t a.k (c.in_ok-partial.ensures b e) (c.in_ok-full.ensures b e) (c.in_ok-empty.ensures b e) (c.in_ok-kept.ensures b e) c.if-kept-gt1.false
+    (elim c.if-first-eq0.branch [
+      | then-first-eq0 w ↦ λ z. sym c.head-first.ensures ∙ w.if-first-eq0.true
+      | else-first-eq0 w ↦ λ z.
+          absurd
+          (true≢false
+          (sym c.if-not-apart.false ∙ w.apart-is ∙ ap not (eq-eqb w.head.result c.head-first.result (w.head.ensures ∙ z ∙ sym c.head-first.ensures))))
+    ])

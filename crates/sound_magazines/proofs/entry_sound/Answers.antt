@@ -30,23 +30,25 @@ returns-then-q-k c n h z = omega (arith, z.in_range, c.entry_slot-q.ensures, c.i
 pub word-requires : goal.word-requires
 word-requires c = local_word_there _ _ (words_there c.requires c.if-s-used.false) _ (slot_word_low c.args.e _ c.entry_slot-q.ensures)
 
-pub returns-then-not-test_bit : goal.returns-then-not-test_bit
-returns-then-not-test_bit c n h z =
+pub returns-else-test_bit : goal.returns-else-test_bit
+returns-else-test_bit c n h =
+    rw c.if-test_bit.false
+    (λ z.
     true≢false
     (sym z.occupied ∙ sym (bit_of c.args.e c.entry_span-s.ensures c.entry_slot-q.ensures c.args.bits.now local_word c.test_bit.result c.word.result c.test_bit.ensures c.word.ensures)
-    ∙ c.if-not-test_bit.true)
+    ∙ c.if-test_bit.false))
 
-pub word-requires-2 : goal.word-requires-2
-word-requires-2 c = remote_word_there _ _ (words_there c.requires c.if-s-used.false) _ (slot_word_low c.args.e _ c.entry_slot-q.ensures)
+pub word-requires-then-test_bit : goal.word-requires-then-test_bit
+word-requires-then-test_bit c = remote_word_there _ _ (words_there c.requires c.if-s-used.false) _ (slot_word_low c.args.e _ c.entry_slot-q.ensures)
 
-pub returns : goal.returns
-returns c n h =
+pub returns-then-test_bit : goal.returns-then-test_bit
+returns-then-test_bit c n h =
     let es = c.entry_span-s.ensures in
     let eq = c.entry_slot-q.ensures in
     let b = c.args.bits.now in
     let p = c.args.spans.now in
-    let pend = bit_of c.args.e es eq b remote_word c.test_bit-2.result c.word-2.result c.test_bit-2.ensures c.word-2.ensures in
-    says_not c.test_bit-2.result
+    let pend = bit_of c.args.e es eq b remote_word c.test_bit-then-test_bit.result c.word-then-test_bit.result c.test_bit-then-test_bit.ensures c.word-then-test_bit.ensures in
+    says_not c.test_bit-then-test_bit.result
     (λ r.
     record {
       belongs =
@@ -56,7 +58,7 @@ returns c n h =
             owner = sym (field_of c.args.e es p owner_field _ c.field-2.ensures) ∙ c.if-field-k-2.false;
           };
       in_range = omega (arith, eq, c.if-q-k.false);
-      occupied = sym (bit_of c.args.e es eq b local_word c.test_bit.result c.word.result c.test_bit.ensures c.word.ensures) ∙ c.if-not-test_bit.false;
+      occupied = sym (bit_of c.args.e es eq b local_word c.test_bit.result c.word.result c.test_bit.ensures c.word.ensures) ∙ c.if-test_bit.true;
       not_pending = sym pend ∙ r;
     })
     (λ z. pend ∙ z.not_pending)

@@ -11,13 +11,13 @@ pub returns-then-n-k : goal.returns-then-n-k
 returns-then-n-k c z = omega (arith, z.count, c.count-n.ensures, c.if-n-k.true)
 
 pub entries-init : goal.entries-init
-entries-init c = record { fine = refl; within = omega arith; each = below_none _; apart = below_none _ }
+entries-init c = record { fine = refl; each = below_none _; apart = below_none _ }
 
 pub entry-e-requires : goal.entry-e-requires
 entry-e-requires c = omega (arith, c.requires.capacity_in_bounds, c.if-n-k.false, c.entries-test.true)
 
 pub loop-i-init : goal.loop-i-init
-loop-i-init c = record { fine = c.entries.invariant.fine; within = omega arith; others = below_none _ }
+loop-i-init c = record { fine = c.entries.invariant.fine; others = below_none _ }
 
 pub entry-requires : goal.entry-requires
 entry-requires c = omega (arith, c.requires.capacity_in_bounds, c.if-n-k.false, c.entries-test.true, c.loop-i-test.true)
@@ -26,7 +26,6 @@ pub loop-i-preserved : goal.loop-i-preserved
 loop-i-preserved c =
     record {
       fine = c.loop-i.invariant.fine;
-      within = omega arith;
       others = below_more _ _ c.loop-i.invariant.others (λ z. c.if-entry-e.false (c.entry.ensures ∙ z));
     }
 
@@ -36,11 +35,10 @@ entries-preserved c =
     let t : Tables = tables a.bits.now a.spans.now a.entries.now a.heads.now a.used in
     record {
       fine = c.loop-i.invariant.fine;
-      within = omega arith;
       each =
           below_more _ _ c.entries.invariant.each
           (subst (EntrySound t a.k) c.entry-e.ensures
-          (granted c.entry_sound.result (c.entry_sound.ensures a.entries.now a.heads.now) c.if-not-entry_sound.false-raw));
+          (granted c.entry_sound.result (c.entry_sound.ensures a.entries.now a.heads.now) c.if-not-entry_sound.false));
       apart =
           below_more _ _ c.entries.invariant.apart
           (λ i l z. c.loop-i.invariant.others i (omega (arith, l, c.loop-i-test.false)) (z ∙ sym c.entry-e.ensures));
@@ -59,7 +57,7 @@ pub returns-then-not-entry_sound : goal.returns-then-not-entry_sound
 returns-then-not-entry_sound c z =
     let a = c.args in
     let t : Tables = tables a.bits.now a.spans.now a.entries.now a.heads.now a.used in
-    refuted c.entry_sound.result (c.entry_sound.ensures a.entries.now a.heads.now) c.if-not-entry_sound.true-raw
+    refuted c.entry_sound.result (c.entry_sound.ensures a.entries.now a.heads.now) c.if-not-entry_sound.true
     (subst (EntrySound t a.k) (sym c.entry-e.ensures)
     (z.entries c.entries.j (omega (arith, c.count-n.ensures, c.entries-test.true))))
 

@@ -21,7 +21,7 @@ unfolding most_slots
 few_slots = slots_most
 
 pub spans-init : goal.spans-init
-spans-init c = record { fine = refl; within = omega arith; each = below_none _ }
+spans-init c = record { fine = refl; each = below_none _ }
 
 pub field-class-requires : goal.field-class-requires
 field-class-requires c = field_there _ _ (fields_there c.requires.used_cells c.spans-test.true) _ (omega arith)
@@ -69,7 +69,7 @@ loop-i-preserved c =
       words =
           rw c.count-sum.ensures
           (passed_more _ _ _ _ _ _ _ _ _ c.loop-i-test.true c.word-x.ensures c.word-p.ensures
-          (granted c.word_sound.result c.word_sound.ensures c.if-not-word_sound.false-raw) c.loop-i.invariant.words);
+          (granted c.word_sound.result c.word_sound.ensures c.if-not-word_sound.false) c.loop-i.invariant.words);
     }
 
 -- All words were passed.
@@ -93,7 +93,6 @@ pub spans-preserved : goal.spans-preserved
 spans-preserved c =
     record {
       fine = c.loop-i.invariant.fine;
-      within = omega arith;
       each =
           below_more _ _ c.spans.invariant.each
           (λ e h most n.
@@ -113,7 +112,7 @@ returns-then-field-heaps c e h most n all = omega (arith, (all _ c.spans-test.tr
 
 pub returns-then-not-word_sound : goal.returns-then-not-word_sound
 returns-then-not-word_sound c e h most n all =
-    refuted c.word_sound.result c.word_sound.ensures c.if-not-word_sound.true-raw
+    refuted c.word_sound.result c.word_sound.ensures c.if-not-word_sound.true
     (word_right c.loop-i.invariant.read e h most n _ _ c.loop-i-test.true c.word-x.ensures c.word-p.ensures (all _ c.spans-test.true))
 
 pub returns-then-sum-slots : goal.returns-then-sum-slots

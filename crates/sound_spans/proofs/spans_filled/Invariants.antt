@@ -2,7 +2,7 @@
 use mathlib.Core.Path.{◌≡◌}
 use mathlib.Core.Bool.{Bool, true}
 use mathlib.Core.List.{List}
-use Prim.Native.Nat.{ℕ, ◌-◌, ◌<◌, ◌≤◌}
+use Prim.Native.Nat.{ℕ, ◌<◌}
 use Rattle.tables.specs.Shape.{shape}
 use Rattle.tables.specs.Cells.{tables}
 use Rattle.sound.specs.Sound.{SpanFilled}
@@ -17,7 +17,6 @@ Filled sizes bits spans heaps used k =
 -- the check has come to span s, and to word i of it
 pub record Passed (sizes bits spans : List ℕ) (heaps used s : ℕ) (ok : Bool) : Type 0 where
   pub fine : ok ≡ true
-  pub within : s ≤ used
   pub each : (k : ℕ) → k < s → Filled sizes bits spans heaps used k
 
 pub record Inside (sizes bits spans : List ℕ) (s class slots summary pending i total : ℕ) (ok : Bool) : Type 0 where
@@ -28,11 +27,5 @@ pub record Inside (sizes bits spans : List ℕ) (s class slots summary pending i
 abbrev pub invariant-loop-i : goal.invariant-loop-i
 invariant-loop-i l = Inside l.sizes l.bits l.spans l.s l.class l.slots l.summary l.pending l.i l.sum l.ok
 
-abbrev pub decreases-loop-i : goal.decreases-loop-i
-decreases-loop-i l = 64 - l.i
-
 abbrev pub invariant-spans : goal.invariant-spans
 invariant-spans l = Passed l.sizes l.bits l.spans l.heaps l.used l.s l.ok
-
-abbrev pub decreases-spans : goal.decreases-spans
-decreases-spans l = l.used - l.s

@@ -1,30 +1,21 @@
 -- `laggersten_summary` meets its contract: the turns write the records of the counted numbers, one by one. Assumes nothing.
 use mathlib.Core.Path.{◌≡◌, sym, ap, subst, ◌∙◌}
-use mathlib.Core.Bool.{Bool, true, false, cond}
-use mathlib.Core.List.{List}
+use mathlib.Core.List.{List, ◌++◌}
 use Prim.Native.Nat.{ℕ, ◌≤◌, ◌<◌}
-use native.Mathlib.Nat.{le_antisymm}
 use native.Mathlib.Omega.{arith}
-use lib.Dec.{eqb}
-use lib.ListN.{length}
+use lib.ListN.{length, take, drop}
+use lib.Seq.{length-take-le}
+use Rattle.std.proofs.lemmas.List.{take-append-drop}
 use Rattle.tables.specs.Shape.{base_shape}
 use Rattle.tables.specs.Cells.{Tables, tables}
 use Rattle.summing.specs.Tally.{summary_cell, pending_cell}
 use Rattle.summary_records.specs.declared.ClassRecord.{ClassRecord}
 use Rattle.summary_records.specs.declared.Counted.{Counted}
 use Rattle.summary_records.specs.Structured.{structured, filled, summary_structs}
-use Rattle.summary_records.specs.Counting.{base_classes, counted_of, counted_turns}
+use Rattle.summary_records.specs.Counting.{counted_of, counted_turns}
 use Rattle.summary_records.proofs.CountedLaws.{counted_within, counted_there, counted_structs}
+use Rattle.summary_records.proofs.FilledRecords.{filled_left}
 use Rattle.summary_records.proofs.laggersten_summary.Goals as goal
-
--- At most 48 records are written.
-few : (b : Bool) → cond b base_classes 0 ≤ 48
-few true = omega arith
-few false = omega arith
-
-turns_few : (s : Counted) (n : ℕ) → n ≡ counted_turns s → n ≤ 48
-unfolding counted_turns
-turns_few s n e = subst (λ (z : ℕ). z ≤ 48) (sym e) (few (eqb s.number 0))
 
 -- No more than are lent.
 turns_within :
@@ -51,32 +42,45 @@ turns_done heaps spans t out s n es en =
     ∙ ap (λ (z : Counted). structured z.number (filled z.cells out (counted_turns z))) es
     ∙ counted_structs heaps spans t out
 
+pub slice_bounds-record-items-end : goal.slice_bounds-record-items-end
+slice_bounds-record-items-end c =
+    let a = c.args in
+    turns_within a.heaps a.spans (tables a.bits.now a.records.now a.entries.now a.heads.now a.used) (length a.out.now) _ _
+    c.count_all-s.ensures c.turns_of-n.ensures
+
+pub slice_bounds-record-items-end-2 : goal.slice_bounds-record-items-end-2
+slice_bounds-record-items-end-2 c =
+    let a = c.args in
+    sym
+    (length-take-le c.turns_of-n.result a.out.now
+    (turns_within a.heaps a.spans (tables a.bits.now a.records.now a.entries.now a.heads.now a.used) (length a.out.now) _ _
+    c.count_all-s.ensures c.turns_of-n.ensures))
+
 pub record_of-requires : goal.record_of-requires
 record_of-requires c =
     let a = c.args in
-    turns_there a.heaps a.spans (tables a.bits.now a.records.now a.entries.now a.heads.now a.used) (length a.out.now) _ _ _
-    c.count_all-s.ensures c.turns_of-n.ensures c.loop-i-test.true
-
-pub offset_bounds-out-i : goal.offset_bounds-out-i
-offset_bounds-out-i c = record { fits = omega (arith, turns_few _ _ c.turns_of-n.ensures, c.loop-i-test.true) }
-
-pub bounds-out-i : goal.bounds-out-i
-bounds-out-i c =
-    let a = c.args in
-    omega (
+    let t = tables a.bits.now a.records.now a.entries.now a.heads.now a.used in
+    turns_there a.heaps a.spans t (length a.out.now) _ _ _ c.count_all-s.ensures c.turns_of-n.ensures
+    (omega (
       arith,
-      turns_within a.heaps a.spans (tables a.bits.now a.records.now a.entries.now a.heads.now a.used) (length a.out.now) _ _
-          c.count_all-s.ensures c.turns_of-n.ensures,
+      length-take-le c.turns_of-n.result a.out.now
+          (turns_within a.heaps a.spans t (length a.out.now) _ _ c.count_all-s.ensures c.turns_of-n.ensures),
       c.loop-i-test.true,
-      c.loop-i.auto.out,
-    )
+    ))
 
 pub returns : goal.returns
 returns c =
     let a = c.args in
     let t = tables a.bits.now a.records.now a.entries.now a.heads.now a.used in
     let s = c.count_all-s.result in
-    let all : c.loop-i.i ≡ c.turns_of-n.result = le_antisymm c.loop-i.invariant.0 c.loop-i-test.false in
-    ap (λ (r : ℕ). structured r c.loop-i.out) c.number_of.ensures
-    ∙ ap (structured s.number) (c.loop-i.invariant.1 ∙ ap (filled s.cells a.out.now) all)
+    let n = c.turns_of-n.result in
+    let lent : length (take n a.out.now) ≡ n =
+    length-take-le n a.out.now (turns_within a.heaps a.spans t (length a.out.now) _ _ c.count_all-s.ensures c.turns_of-n.ensures) in
+    let all : c.loop-i.i ≡ n = omega (arith, lent, c.loop-i-test.false) in
+    let written : c.loop-i.record-items ++ drop n a.out.now ≡ filled s.cells a.out.now n =
+    ap (λ (l : List ClassRecord). l ++ drop n a.out.now) (c.loop-i.invariant ∙ ap (filled s.cells (take n a.out.now)) all)
+    ∙ sym (filled_left s.cells (take n a.out.now) (drop n a.out.now) n (omega (arith, lent)))
+    ∙ ap (λ (l : List ClassRecord). filled s.cells l n) (take-append-drop n a.out.now) in
+    ap (λ (r : ℕ). structured r (c.loop-i.record-items ++ drop n a.out.now)) c.number_of.ensures
+    ∙ ap (structured s.number) written
     ∙ turns_done a.heaps a.spans t a.out.now s _ c.count_all-s.ensures c.turns_of-n.ensures

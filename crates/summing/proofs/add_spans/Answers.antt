@@ -6,23 +6,16 @@ use Rattle.summing.specs.Tally.{Tallied}
 use Rattle.summing.proofs.TallyLaws.{span_fits, tallied_more}
 use Rattle.summing.proofs.add_spans.Goals as goal
 
-pub loop-s-init : goal.loop-s-init
-loop-s-init c = record { within = omega arith; tallied = c.requires.tallied }
-
 pub add_span-requires : goal.add_span-requires
-add_span-requires c = span_fits c.requires.spans_count c.loop-s-test.true c.loop-s.invariant.tallied
+add_span-requires c = span_fits c.requires.spans_count c.loop-s-test.true c.loop-s.invariant
 
 pub loop-s-preserved : goal.loop-s-preserved
-loop-s-preserved c =
-    record {
-      within = omega (arith, c.loop-s-test.true);
-      tallied = rw c.add_span.ensures (tallied_more c.requires.spans_count c.loop-s-test.true c.loop-s.invariant.tallied);
-    }
+loop-s-preserved c = rw c.add_span.ensures (tallied_more c.requires.spans_count c.loop-s-test.true c.loop-s.invariant)
 
 pub shape_of-out : goal.shape_of-out
-shape_of-out c = c.loop-s.invariant.tallied.long ∙ sym c.requires.tallied.long
+shape_of-out c = c.loop-s.invariant.long ∙ sym c.requires.tallied.long
 
 pub returns : goal.returns
 returns c =
-    let e : c.loop-s.s ≡ c.args.used = omega (arith, c.loop-s.invariant.within, c.loop-s-test.false) in
-    subst (λ (z : ℕ). Tallied c.args.classes c.args.bits.now c.args.spans.now z c.loop-s.out) e c.loop-s.invariant.tallied
+    let e : c.loop-s.s ≡ c.args.used = omega (arith, c.loop-s-test.false) in
+    subst (λ (z : ℕ). Tallied c.args.classes c.args.bits.now c.args.spans.now z c.loop-s.out) e c.loop-s.invariant

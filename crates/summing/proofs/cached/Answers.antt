@@ -9,7 +9,7 @@ use Rattle.summing.proofs.TallyLaws.{cached_none, cached_more, row_there, row_be
 use Rattle.summing.proofs.cached.Goals as goal
 
 pub loop-h-init : goal.loop-h-init
-loop-h-init c = record { within = omega arith; most = omega arith; is = cached_none _ _ _ }
+loop-h-init c = record { most = omega arith; is = cached_none _ _ _ }
 
 pub overflow_mul-h : goal.overflow_mul-h
 overflow_mul-h c = omega (arith, row_below c.requires.heads_count c.loop-h-test.true c.requires.c_lt_classes)
@@ -28,12 +28,11 @@ pub loop-h-preserved : goal.loop-h-preserved
 unfolding most_capacity
 loop-h-preserved c =
     record {
-      within = omega (arith, c.loop-h-test.true);
       most = omega (arith, c.head-total.ensures, c.requires.heads_count.counts _ c.loop-h-test.true _ c.requires.c_lt_classes, c.loop-h.invariant.most);
       is = cached_more _ _ _ _ c.loop-h.invariant.is c.head-total.ensures;
     }
 
 pub returns : goal.returns
 returns c =
-    let e : c.loop-h.h ≡ c.args.heaps = omega (arith, c.loop-h.invariant.within, c.loop-h-test.false) in
+    let e : c.loop-h.h ≡ c.args.heaps = omega (arith, c.loop-h-test.false) in
     subst (λ (z : ℕ). c.loop-h.total ≡ cached_in c.args.heads.now c.args.classes z c.args.c) e c.loop-h.invariant.is

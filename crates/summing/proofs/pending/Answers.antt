@@ -9,7 +9,7 @@ use Rattle.summing.proofs.TallyLaws.{pending_none, pending_more}
 use Rattle.summing.proofs.pending.Goals as goal
 
 pub loop-i-init : goal.loop-i-init
-loop-i-init c = record { few = omega arith; most = omega arith; is = pending_none _ _ }
+loop-i-init c = record { most = omega arith; is = pending_none _ _ }
 
 pub word-requires : goal.word-requires
 word-requires c = remote_word_there _ _ c.requires _ c.loop-i-test.true
@@ -20,12 +20,11 @@ overflow_add-total c = omega (arith, c.count-total.ensures, ones_most 64 c.word.
 pub loop-i-preserved : goal.loop-i-preserved
 loop-i-preserved c =
     record {
-      few = omega (arith, c.loop-i-test.true);
       most = omega (arith, c.count-total.ensures, ones_most 64 c.word.result, c.loop-i.invariant.most);
       is = pending_more _ _ _ c.loop-i.invariant.is c.word.ensures c.count-total.ensures;
     }
 
 pub returns : goal.returns
 returns c =
-    let e : c.loop-i.i ≡ 64 = omega (arith, c.loop-i.invariant.few, c.loop-i-test.false) in
+    let e : c.loop-i.i ≡ 64 = omega (arith, c.loop-i-test.false) in
     subst (λ (z : ℕ). c.loop-i.total ≡ pending_in c.args.bits.now c.args.s z) e c.loop-i.invariant.is
