@@ -1,5 +1,5 @@
 -- Laws of the lines: one entry more, the cells of a class, one part of a line after another. Assumes nothing.
-use Rattle.std.proofs.Common.{◌≡◌, ℕ, ◌+◌, ◌*◌, ◌<◌, ◌≤◌, List, ◌++◌, length, get_or, sym, refl, ap, ◌∙◌, subst, ap₂, arith, eq-eqb, ne_eqb}
+use Rattle.std.proofs.Common.{◌≡◌, ℕ, ◌+◌, ◌*◌, ◌<◌, ◌≤◌, List, ◌++◌, length, get_or, sym, refl, ap, ◌∙◌, subst, ap₂, arith}
 use Rattle.laws.specs.Choice.{sum}
 use Rattle.laws.proofs.SumSteps.{sum_next}
 use Rattle.size_classes.specs.SlotSizes.{rising, groups, slot_sizes, slot_size, Admissible}
@@ -8,11 +8,11 @@ use Rattle.magazine_layout.specs.Layout.{capacity_for, entries_per_heap}
 use Rattle.magazine_layout.proofs.Worked.{worked}
 use Rattle.tables.specs.declared.ClassHeap.{ClassHeap}
 use Rattle.tables.specs.Shape.{shape, most_heaps, most_spans, base_shape, head_cells, row_of, base_of, class_heap}
-use Rattle.tables.specs.Cells.{head_cell, entry_span}
+use Rattle.tables.specs.Cells.{head_cell}
 use Rattle.tables.proofs.MagazineCells.{base_within}
 use Rattle.trace_text.specs.Wrote.{Wrote}
 use Rattle.trace_text.proofs.Writing.{wrote_then}
-use Rattle.spantrace.specs.Trace.{place_of, naming, named_in}
+use Rattle.spantrace.specs.Trace.{naming, named_in}
 
 -- No entry, and one more.
 pub named_none : (entries : List ℕ) (base s : ℕ) → 0 ≡ named_in entries base s 0

@@ -1,7 +1,7 @@
 // Reads batch records from standard input to its end, performs them on a fresh table of 4 heaps and 32 spans, and prints a line for each record and for each used span.
 #![tactic(auto)]
 
-ghost use Rattle.std.specs.Prelude.{◌≡◌, ◌+◌, ◌*◌, ◌/◌, ◌<◌, ◌≤◌, length};
+ghost use Rattle.std.specs.Prelude.{◌≡◌, ◌+◌, ◌*◌, ◌/◌, ◌<◌, ◌≤◌, [], ◌∷◌, length};
 ghost use Rattle.calls.specs.Batch.{record_bytes};
 ghost use Rattle.spantrace.specs.Trace.{WroteAnswer, WroteSpan, letter, place_of, naming, named_in};
 
@@ -49,6 +49,19 @@ struct Answer {
     offset: u64,
 }
 
+// The three numbers of an answer, as a batch writes them.
+impl From<[u64; 3]> for Answer {
+    ghost from_gives = { λ triple answer. triple ≡ answer.number ∷ answer.span ∷ answer.offset ∷ [] };
+
+    fn from([number, span, offset]: [u64; 3]) -> Answer {
+        Answer {
+            number,
+            span,
+            offset,
+        }
+    }
+}
+
 impl Answer {
     // A number that names no block.
     fn of_number(number: u64) -> Answer
@@ -75,7 +88,7 @@ impl Answer {
 }
 
 // Where a span stands: in the partial or the full list of its class, its reserve, or the empty list.
-#[derive(Clone, Copy, Debug, PartialEq, Eq)]
+#[derive(Clone, Copy)]
 enum Place {
     Partial,
     Full,
@@ -251,15 +264,12 @@ impl Trace {
         let end = whole_bytes(bytes);
         let mut answers = [0; CHUNK_ANSWERS];
         let refusal = self.perform(&bytes[..end], &mut answers);
-        for i in 0..end / RECORD_BYTES {
-            let answer = if refusal != 0 {
-                Answer::of_number(refusal)
+        let (triples, _) = answers.as_chunks::<3>();
+        for triple in &triples[..end / RECORD_BYTES] {
+            let answer = if refusal == 0 {
+                Answer::from(*triple)
             } else {
-                Answer {
-                    number: answers[i * 3],
-                    span: answers[i * 3 + 1],
-                    offset: answers[i * 3 + 2],
-                }
+                Answer::of_number(refusal)
             };
             self.put_next(answer, text);
         }
@@ -287,6 +297,7 @@ impl Trace {
     }
 
     // The line of span s; none where its record or its magazine's count cannot stand in a sound table.
+    #[tactic(auto, unfolding(tables::specs::Cells::span_cell, tables::specs::Shape::record_cells, tables::specs::Shape::bitmap_cells))]
     fn span_line(&self, s: u64) -> Option<SpanLine>
         requires { s < 32 }
     {

@@ -2,7 +2,7 @@
 #![tactic(auto)]
 
 ghost use Rattle.std.specs.Prelude.{◌≡◌, ◌≤◌, ℕ, List, [], ◌∷◌, length};
-ghost use Rattle.trace_text.specs.Wrote.{Wrote, WroteNumber, WroteField};
+ghost use Rattle.trace_text.specs.Wrote.{Wrote, WroteNumber, WroteField, Copied};
 
 use arrayvec::ArrayVec;
 use itoa::Buffer;
@@ -68,5 +68,20 @@ impl<const N: usize> Text<N> {
     {
         self.put(b' ');
         self.put_number(n);
+    }
+
+    // What fits of the text, in a lent buffer from the place at on. The answer is the next place.
+    pub fn copy_to(&self, out: &mut [u8], at: usize) -> usize
+        ensures prefix_len { result ≤ length out.new }
+        ensures out_len_unchanged { length out.new ≡ length out.old }
+        ensures copied { Copied out.old at self.now out.new result }
+    {
+        if at >= out.len() {
+            return out.len();
+        }
+        let text = self.as_slice();
+        let n = text.len().min(out.len() - at);
+        out[at..at + n].copy_from_slice(&text[..n]);
+        at + n
     }
 }

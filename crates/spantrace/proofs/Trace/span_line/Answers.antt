@@ -1,17 +1,7 @@
 -- `spantrace::Trace::span_line` meets its contract: every cell it reads is within its table. Assumes nothing.
 use Rattle.std.proofs.Common.{arith}
-use Rattle.tables.specs.Shape.{bitmap_cells, record_cells}
-use Rattle.tables.specs.Cells.{span_cell}
 use Rattle.spantrace.proofs.TraceLaws.{sizes_admissible, heap_named, class_named, home_here, head_here}
 use Rattle.spantrace.proofs.Trace.span_line.Goals as goal
-
-pub field-class-requires : goal.field-class-requires
-unfolding span_cell record_cells
-field-class-requires c = omega (arith, c.requires)
-
-pub field-owner-requires : goal.field-owner-requires
-unfolding span_cell record_cells
-field-owner-requires c = omega (arith, c.requires)
 
 pub class_heap-k-requires : goal.class_heap-k-requires
 class_heap-k-requires c =
@@ -23,19 +13,8 @@ class_heap-k-requires c =
 pub head-count-requires : goal.head-count-requires
 head-count-requires c = head_here (home_here _ _ _ _ c.slot_sizes-sizes.ensures c.class_heap-k.ensures (omega (arith, c.if-owner-ge-HEAPS.false)) (omega (arith, c.if-class-ge-CLASSES.false))) (omega arith) (omega arith)
 
-pub field-occupied-requires : goal.field-occupied-requires
-unfolding span_cell record_cells
-field-occupied-requires c = omega (arith, c.requires)
-
 pub head-kept-requires : goal.head-kept-requires
 head-kept-requires c = head_here (home_here _ _ _ _ c.slot_sizes-sizes.ensures c.class_heap-k.ensures (omega (arith, c.if-owner-ge-HEAPS.false)) (omega (arith, c.if-class-ge-CLASSES.false))) (omega arith) (omega arith)
-
-pub of-requires : goal.of-requires
-of-requires c = c.requires
-
-pub pending-requires : goal.pending-requires
-unfolding bitmap_cells
-pending-requires c = record { there = omega (arith, c.requires) }
 
 pub cached-requires : goal.cached-requires
 cached-requires c = omega (arith, (home_here _ _ _ _ c.slot_sizes-sizes.ensures c.class_heap-k.ensures (omega (arith, c.if-owner-ge-HEAPS.false)) (omega (arith, c.if-class-ge-CLASSES.false))).magazine, c.if-count-k.false)
