@@ -252,7 +252,9 @@ impl Trace {
     }
 
     // The line of the next record.
-    fn put_next(&mut self, answer: Answer, text: &mut Text<CHUNK_TEXT>) {
+    fn put_next(&mut self, answer: Answer, text: &mut Text<CHUNK_TEXT>)
+        ensures { WroteAnswer 44118 text.old self.new.done answer.number answer.span answer.offset text.new }
+    {
         self.done = self.done.wrapping_add(1);
         answer.put_line(self.done, text);
     }
