@@ -1,5 +1,5 @@
--- Laws of the lines: a span's place by the tests of the code, one entry more, the cells of a class; one part of a line after another. Assumes nothing.
-use Rattle.std.proofs.Common.{◌≡◌, ℕ, ◌+◌, ◌*◌, ◌<◌, ◌≤◌, List, ◌++◌, length, get_or, sym, refl, ap, ◌∙◌, subst, ap₂, arith, eq-eqb, ne_eqb}
+-- Laws of the lines: one entry more, the cells of a class, one part of a line after another. Assumes nothing.
+use Rattle.std.proofs.Common.{◌≡◌, ℕ, ◌+◌, ◌*◌, ◌<◌, ◌≤◌, List, ◌++◌, length, get_or, sym, refl, ap, ◌∙◌, subst, ap₂, arith}
 use Rattle.laws.specs.Choice.{sum}
 use Rattle.laws.proofs.SumSteps.{sum_next}
 use Rattle.size_classes.specs.SlotSizes.{rising, groups, slot_sizes, slot_size, Admissible}
@@ -8,37 +8,11 @@ use Rattle.magazine_layout.specs.Layout.{capacity_for, entries_per_heap}
 use Rattle.magazine_layout.proofs.Worked.{worked}
 use Rattle.tables.specs.declared.ClassHeap.{ClassHeap}
 use Rattle.tables.specs.Shape.{shape, most_heaps, most_spans, base_shape, head_cells, row_of, base_of, class_heap}
-use Rattle.tables.specs.Cells.{head_cell, entry_span}
+use Rattle.tables.specs.Cells.{head_cell}
 use Rattle.tables.proofs.MagazineCells.{base_within}
 use Rattle.trace_text.specs.Wrote.{Wrote}
 use Rattle.trace_text.proofs.Writing.{wrote_then}
-use Rattle.spantrace.specs.Trace.{place_of, naming, named_in}
-
-module _ (slots occupied kept s : ℕ) where
-  pub place_reserve : occupied ≡ 0 → kept ≡ s + 1 → 0x52 ≡ place_of slots occupied kept s
-  unfolding place_of
-  place_reserve e k = rw (eq-eqb occupied 0 e, eq-eqb kept (s + 1) k)
-
-  pub place_empty : occupied ≡ 0 → (kept ≡ s + 1 → ⊥) → 0x45 ≡ place_of slots occupied kept s
-  unfolding place_of
-  place_empty e k = rw (eq-eqb occupied 0 e, ne_eqb kept (s + 1) k)
-
-  pub place_full : (occupied ≡ 0 → ⊥) → occupied ≡ slots → 0x46 ≡ place_of slots occupied kept s
-  unfolding place_of
-  place_full e k = rw (ne_eqb occupied 0 e, eq-eqb occupied slots k)
-
-  pub place_partial : (occupied ≡ 0 → ⊥) → (occupied ≡ slots → ⊥) → 0x50 ≡ place_of slots occupied kept s
-  unfolding place_of
-  place_partial e k = rw (ne_eqb occupied 0 e, ne_eqb occupied slots k)
-
--- An entry names the span, or another.
-pub names : (e s : ℕ) {x : ℕ} → x ≡ entry_span e → x ≡ s → 1 ≡ naming e s
-unfolding naming
-names e s x y = rw (eq-eqb (entry_span e) s (sym x ∙ y))
-
-pub names_other : (e s : ℕ) {x : ℕ} → x ≡ entry_span e → (x ≡ s → ⊥) → 0 ≡ naming e s
-unfolding naming
-names_other e s x n = rw (ne_eqb (entry_span e) s (λ y. n (x ∙ y)))
+use Rattle.spantrace.specs.Trace.{naming, named_in}
 
 -- No entry, and one more.
 pub named_none : (entries : List ℕ) (base s : ℕ) → 0 ≡ named_in entries base s 0
@@ -93,12 +67,9 @@ pub head_here : {k : ClassHeap} {f n : ℕ} → Home k → f < 5 → 960 ≤ n �
 unfolding head_cell head_cells
 head_here h f n = omega (arith, h.row, f, n)
 
--- A part of a line was written, and the text is as long as it was.
-pub record Written (l : List ℕ) (at : ℕ) (t m : List ℕ) (r : ℕ) : Type 0 where
-  pub same : length m ≡ length l
-  pub wrote : Wrote l at t m r
+-- A part of a line was written.
+pub record Written (room : ℕ) (l s m : List ℕ) : Type 0 where
+  pub wrote : Wrote room l s m
 
-pub written_then :
-    {l m n : List ℕ} {at p r : ℕ} {s : List ℕ} (t : List ℕ) → Written l at s m p → length n ≡ length m → Wrote m p t n r → Written l at (s ++ t) n r
-written_then {l} {m} {n} {at} {p} {r} {s} t w e more =
-    record { same = e ∙ w.same; wrote = wrote_then l m n at p r s t w.same w.wrote more }
+pub written_then : {room : ℕ} {l m n s : List ℕ} (t : List ℕ) → Written room l s m → Wrote room m t n → Written room l (s ++ t) n
+written_then {room} {l} {m} {n} {s} t w more = record { wrote = wrote_then room l m n s t w.wrote more }

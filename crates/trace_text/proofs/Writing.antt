@@ -1,34 +1,45 @@
--- The laws of `Wrote`: one byte, nothing, and one text after another. Assumes nothing.
-use Prim.Native.Nat.{ℕ, ◌+◌, ◌≤◌, ◌<◌}
-use native.Mathlib.Omega.{arith}
-use native.Mathlib.Numerals.{add-one}
-use mathlib.Core.Path.{◌≡◌, refl, sym, ◌∙◌, ap, subst}
-use mathlib.Core.List.{List, [], ◌∷◌, ◌++◌, append-nil, append_assoc}
-use lib.ListN.{length, take, set, get_or, length-append}
-use lib.Seq.{take-suc, take-suc-set, take_all}
-use Rattle.trace_text.specs.Wrote.{Wrote}
+-- One text after another, where what does not fit is left out; and what std writes of a number is its digits. Assumes nothing.
+use Prim.Native.Nat.{suc, zero}
+use Rattle.std.proofs.Common.{◌≡◌, ℕ, ◌+◌, ◌-◌, ◌/◌, ◌%◌, ◌^◌, ◌<◌, ◌≤◌, List, [], ◌∷◌, ◌++◌, take, arith, rules, refl, sym, ap, subst, ◌∙◌}
+use Rattle.std.specs.Prelude.{decimal}
+use mathlib.Core.List.{append_assoc}
+use Rattle.io.specs.Digits.{hex_digit_ascii, last_digits}
+use Rattle.std.proofs.Math.Nat.{mod-eq_of_lt, pow-succ'}
+use Rattle.std.proofs.lemmas.Fmt.{decimal_by_steps}
+use Rattle.trace_text.specs.Wrote.{Wrote, Decimal}
 
-pub wrote_byte : (l : List ℕ) (at b : ℕ) → at < length l → Wrote l at (b ∷ []) (set l at b) (at + 1)
-wrote_byte l at b within room = (refl, ap (λ (k : ℕ). take k (set l at b)) (add-one at) ∙ take-suc-set l at b within)
+take_seam : (r : ℕ) (xs ys : List ℕ) → take r (take r xs ++ ys) ≡ take r (xs ++ ys)
+take_seam zero xs ys = refl
+take_seam (suc r) [] ys = refl
+take_seam (suc r) (x ∷ xs) ys = ap (λ (zs : List ℕ). x ∷ zs) (take_seam r xs ys)
 
-pub wrote_nothing : (l : List ℕ) (at : ℕ) → Wrote l at [] l at
-wrote_nothing l at room = (omega arith, sym (append-nil (take at l)))
+pub wrote_then : (room : ℕ) (l m n s t : List ℕ) → Wrote room l s m → Wrote room m t n → Wrote room l (s ++ t) n
+wrote_then room l m n s t first second =
+    second ∙ ap (λ (x : List ℕ). take room (x ++ t)) first ∙ take_seam room (l ++ s) t ∙ ap (λ (x : List ℕ). take room x) (append_assoc l s t)
 
-pub wrote_then : (l m n : List ℕ) (at p r : ℕ) (s t : List ℕ) → length m ≡ length l → Wrote l at s m p → Wrote m p t n r → Wrote l at (s ++ t) n r
-wrote_then l m n at p r s t same first second room =
-    (omega (arith, a.0, b.0, length-append s t), b.1 ∙ ap (λ (x : List ℕ). x ++ t) a.1 ∙ append_assoc (take at l) s t)
-  where
-    a : (p ≡ at + length s) × (take p m ≡ take at l ++ s)
-    a = first (omega (arith, room, length-append s t))
+digit : (d : ℕ) → d < 10 → hex_digit_ascii d ≡ 48 + d
+digit d small = search rules
 
-    b : (r ≡ p + length t) × (take r n ≡ take p m ++ t)
-    b = second (omega (arith, room, a.0, same, length-append s t))
+one : (n : ℕ) → n < 10 → Decimal n ((48 + n) ∷ [])
+one n small =
+    (1, (omega arith, omega (arith, small), λ more. absurd (omega (arith, more))), ap (λ (x : ℕ). x ∷ []) (sym (ap hex_digit_ascii (mod-eq_of_lt small) ∙ digit n small)))
 
--- one byte more of a text
-pub wrote_next : (l m n : List ℕ) (at p r : ℕ) (t : List ℕ) (i : ℕ) → i < length t → length m ≡ length l → Wrote l at (take i t) m p → Wrote m p (get_or t i 0 ∷ []) n r → Wrote l at (take (i + 1) t) n r
-wrote_next l m n at p r t i within same first second =
-    subst (λ (s : List ℕ). Wrote l at s n r) (sym (ap (λ (k : ℕ). take k t) (add-one i) ∙ take-suc t i 0 within)) (wrote_then l m n at p r (take i t) (get_or t i 0 ∷ []) same first second)
+before : (k : ℕ) → suc k - 1 ≡ k
+before k = omega arith
 
--- all of it
-pub wrote_all : (l n : List ℕ) (at r : ℕ) (t : List ℕ) (i : ℕ) → length t ≤ i → Wrote l at (take i t) n r → Wrote l at t n r
-wrote_all l n at r t i over w = subst (λ (s : List ℕ). Wrote l at s n r) (take_all i t over) w
+front : (n k : ℕ) → 10 ≤ n → (1 < k → 10 ^ (k - 1) ≤ n / 10) → 1 < suc k → 10 ^ k ≤ n
+front n zero large rest some = absurd (omega (arith, some))
+front n (suc zero) large rest some = large
+front n (suc (suc k)) large rest some =
+    let most : 10 ^ suc k ≤ n / 10 = subst (λ (x : ℕ). 10 ^ x ≤ n / 10) (before (suc k)) (rest (omega arith)) in
+    omega (arith, most, pow-succ' 10 (suc k))
+
+more : (n : ℕ) (ds : List ℕ) → 10 ≤ n → Decimal (n / 10) ds → Decimal n (ds ++ ((48 + n % 10) ∷ []))
+more n ds large d = (
+  suc d.0,
+  (omega arith, omega (arith, d.1.1, pow-succ' 10 d.0), λ some. subst (λ (x : ℕ). 10 ^ x ≤ n) (sym (before d.0)) (front n d.0 large d.1.2 some)),
+  ap (λ (x : List ℕ). x ++ ((48 + n % 10) ∷ [])) d.2 ∙ ap (λ (x : ℕ). last_digits 10 d.0 (n / 10) ++ (x ∷ [])) (sym (digit (n % 10) (omega arith))),
+)
+
+pub decimal_is : (n : ℕ) → n < 2 ^ 64 → Decimal n (decimal n)
+decimal_is n fits = decimal_by_steps Decimal one more n fits

@@ -1,8 +1,0 @@
--- `spantrace::all_turns` ends: the turns left fall. Assumes nothing.
-use Rattle.spantrace.proofs.all_turns.Given as goal
-
-abbrev pub invariant-loop-turns : goal.invariant-loop-turns
-invariant-loop-turns l = Unit {0}
-
-abbrev pub decreases-loop-turns : goal.decreases-loop-turns
-decreases-loop-turns l = l.turns
