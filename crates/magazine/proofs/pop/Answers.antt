@@ -4,7 +4,9 @@ use Rattle.magazine.proofs.StepLaws.{pop_made}
 use Rattle.magazine.proofs.pop.Goals as goal
 
 pub returns-clause-top : goal.returns-clause-top
-returns-clause-top c = ?
+returns-clause-top c =
+    let counted = rw c.heads.ensures at c.count-top.ensures in
+    rw c.entries.ensures at c.entry.ensures ∙ rw counted
 
 pub returns-clause-cells : goal.returns-clause-cells
 returns-clause-cells c =
