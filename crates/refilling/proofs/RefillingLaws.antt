@@ -108,26 +108,18 @@ pub record Refilling (limit : ℕ) (k : ClassHeap) (ws : List ℕ) (t₀ t : Tab
   pub fronts : Fronts left limit t k ws i
   pub taken : i + left ≡ k.capacity
   pub long : k.capacity ≤ length ws
-  pub bits_length : length t.bits ≡ length t₀.bits
-  pub spans_length : length t.spans ≡ length t₀.spans
-  pub entries_length : length t.entries ≡ length t₀.entries
-  pub heads_length : length t.heads ≡ length t₀.heads
   pub same : refill left limit t k ws i ≡ refill k.capacity limit t₀ k ws 0
 
 pub refill_start :
-    (limit : ℕ) (k : ClassHeap) (ws : List ℕ) (t : Tables) → Working limit k t → Fronts k.capacity limit t k ws 0 → k.capacity ≤ length ws →
-    Refilling limit k ws t t 0 k.capacity
-refill_start limit k ws t w f l =
+    (limit : ℕ) (k : ClassHeap) (ws : List ℕ) (t : Tables) (left : ℕ) → Working limit k t → Fronts k.capacity limit t k ws 0 → k.capacity ≤ length ws →
+    left ≡ k.capacity → Refilling limit k ws t t 0 left
+refill_start limit k ws t left w f l e =
     record {
       working = w;
-      fronts = f;
-      taken = omega arith;
+      fronts = rw e f;
+      taken = omega (arith, e);
       long = l;
-      bits_length = refl;
-      spans_length = refl;
-      entries_length = refl;
-      heads_length = refl;
-      same = refl;
+      same = rw e;
     }
 
 module _ (limit : ℕ) (k : ClassHeap) (ws : List ℕ) (t₀ t : Tables) (i left : ℕ) (r : Refilling limit k ws t₀ t i left) (more : 0 < left) where
@@ -159,22 +151,26 @@ module _ (limit : ℕ) (k : ClassHeap) (ws : List ℕ) (t₀ t : Tables) (i left
       refill_fronted = rw p front
 
       pub refill_again :
-          (t₂ : Tables) (w : ℕ) → w ≡ get_or ws i 0 → t₂ ≡ claim_front t₁ k w → length t₂.bits ≡ length t.bits →
-          length t₂.spans ≡ length t.spans → length t₂.entries ≡ length t.entries → length t₂.heads ≡ length t.heads →
-          Refilling limit k ws t₀ t₂ (i + 1) (left - 1)
-      refill_again t₂ w x q lb ls le lh =
+          (t₂ : Tables) (w : ℕ) → w ≡ get_or ws i 0 → t₂ ≡ claim_front t₁ k w →
+          (rest : ℕ) → left ≡ rest + 1 → Refilling limit k ws t₀ t₂ (i + 1) rest
+      refill_again t₂ w x q rest h =
+          let one : rest ≡ left - 1 = omega (arith, h) in
           let c : t₂ ≡ claim_front (replenish limit t k) k (get_or ws i 0) = rw (← p, ← x) q in
           record {
             working = working_as c (claim_front_working front (get_or ws i 0));
-            fronts = rw c (fronts_next left limit t k ws i more r.fronts room some);
-            taken = omega (arith, r.taken);
+            fronts = rw (c, one) (fronts_next left limit t k ws i more r.fronts room some);
+            taken = omega (arith, r.taken, h);
             long = r.long;
-            bits_length = lb ∙ r.bits_length;
-            spans_length = ls ∙ r.spans_length;
-            entries_length = le ∙ r.entries_length;
-            heads_length = lh ∙ r.heads_length;
-            same = rw c (sym (refill_turn left limit t k ws i room more then) ∙ r.same);
+            same = rw (c, one) (sym (refill_turn left limit t k ws i room more then) ∙ r.same);
           }
+
+-- After the last turn the magazine's whole capacity was claimed.
+pub refill_done :
+    (limit : ℕ) (k : ClassHeap) (ws : List ℕ) (t₀ t : Tables) (i left : ℕ) → Refilling limit k ws t₀ t i left → left ≤ 0 →
+    refilled t k.capacity ≡ refill k.capacity limit t₀ k ws 0
+refill_done limit k ws t₀ t i left r h =
+    let all : k.capacity ≡ i = omega (arith, r.taken, h) in
+    ap (λ (n : ℕ). refilled t n) all ∙ sym (refill_out left limit t k ws i h) ∙ r.same
 
 -- A refill uses a word a turn, at most.
 pub refill_words : (n limit : ℕ) (t : Tables) (k : ClassHeap) (ws : List ℕ) (i : ℕ) → (refill n limit t k ws i).words ≤ i + n

@@ -1,57 +1,81 @@
 -- `refilling::refill` meets its contract: what is left to refill falls by the claim. Assumes nothing.
-use mathlib.Core.Path.{sym, ◌∙◌}
+use mathlib.Core.Path.{refl, sym, ◌∙◌}
 use native.Mathlib.Omega.{arith}
 use Rattle.linked_list.proofs.ReachLaws.{head_here}
+use Rattle.tables.proofs.LentLaws.{lent_same, lent_on}
 use Rattle.placing.proofs.PlacingKept.{working_links, working_room}
-use Rattle.refilling.proofs.RefillingLaws.{refill_out, refill_full, refill_start, capacity_few, replenished_working, refill_ends, refill_fronted, refill_again}
+use Rattle.refilling.proofs.RefillingLaws.{refill_full, refill_start, capacity_few, replenished_working, refill_ends, refill_fronted, refill_again, refill_done}
 use Rattle.refilling.proofs.refill.Goals as goal
 
-pub loop-left-init : goal.loop-left-init
-loop-left-init c = let p = c.requires in refill_start _ _ _ _ p.working p.fronts p.capacity_in_bounds
+pub loop-i-init : goal.loop-i-init
+loop-i-init c = let p = c.requires in
+    record {
+      lent = lent_same;
+      refill = refill_start _ _ _ _ _ p.working p.fronts p.capacity_in_bounds (omega arith);
+    }
 
 pub count-requires : goal.count-requires
-count-requires c = (working_room c.loop-left.invariant.working).row
+count-requires c = rw c.heads.ensures (working_room c.loop-i.invariant.refill.working).row
 
-pub returns-then-count-k : goal.returns-then-count-k
-returns-then-count-k c = sym (refill_full _ _ _ _ _ _ (omega (arith, c.if-count-k.true, c.count.ensures))) ∙ c.loop-left.invariant.same
+pub returns-then-count-k-clause-lent : goal.returns-then-count-k-clause-lent
+returns-then-count-k-clause-lent c = c.loop-i.invariant.lent
+
+pub returns-then-count-k-clause-refilled : goal.returns-then-count-k-clause-refilled
+returns-then-count-k-clause-refilled c =
+    let count = rw c.heads.ensures at c.count.ensures in
+    sym (refill_full _ _ _ _ _ _ (omega (arith, c.if-count-k.true, count))) ∙ c.loop-i.invariant.refill.same
 
 pub replenish-requires : goal.replenish-requires
-replenish-requires c = (c.loop-left.entries, c.loop-left.invariant.working)
+replenish-requires c = c.loop-i.invariant.refill.working
 
 pub front-requires : goal.front-requires
 front-requires c =
-    head_here
+    let r = c.loop-i.invariant.refill in
+    let count = rw c.heads.ensures at c.count.ensures in
+    rw c.heads-in-loop-i.ensures
+    (head_here
     (working_links
-    (replenished_working _ _ _ _ _ _ _ c.loop-left.invariant c.loop-left-test.true (omega (arith, c.if-count-k.false, c.count.ensures)) _
-    (c.replenish.ensures c.loop-left.entries)))
-    (omega arith)
+    (replenished_working _ _ _ _ _ _ _ r (omega arith) (omega (arith, c.if-count-k.false, count)) _ c.replenish.ensures.cells))
+    (omega arith))
 
-pub returns-then-front-eq0 : goal.returns-then-front-eq0
-returns-then-front-eq0 c =
-    refill_ends _ _ _ _ _ _ _ c.loop-left.invariant c.loop-left-test.true (omega (arith, c.if-count-k.false, c.count.ensures)) _ (c.replenish.ensures c.loop-left.entries)
-    (sym c.front.ensures ∙ c.if-front-eq0.true)
+pub returns-then-front-eq0-clause-lent : goal.returns-then-front-eq0-clause-lent
+returns-then-front-eq0-clause-lent c = lent_on c.loop-i.invariant.lent c.replenish.ensures.lent
 
-pub word_at-word-requires : goal.word_at-word-requires
-word_at-word-requires c = let r = c.loop-left.invariant in omega (arith, r.taken, r.long, c.loop-left-test.true)
+pub returns-then-front-eq0-clause-refilled : goal.returns-then-front-eq0-clause-refilled
+returns-then-front-eq0-clause-refilled c =
+    let r = c.loop-i.invariant.refill in
+    let count = rw c.heads.ensures at c.count.ensures in
+    let front = rw c.heads-in-loop-i.ensures at c.front.ensures in
+    refill_ends _ _ _ _ _ _ _ r (omega arith) (omega (arith, c.if-count-k.false, count)) _ c.replenish.ensures.cells
+    (sym front ∙ c.if-front-eq0.true)
+
+pub bounds-words-i : goal.bounds-words-i
+bounds-words-i c = let r = c.loop-i.invariant.refill in omega (arith, r.long)
 
 pub claim_front-requires : goal.claim_front-requires
-claim_front-requires c = (
-  _,
-  _,
-  refill_fronted _ _ _ _ _ _ _ c.loop-left.invariant c.loop-left-test.true (omega (arith, c.if-count-k.false, c.count.ensures)) _
-      (c.replenish.ensures c.loop-left.entries) (λ z. c.if-front-eq0.false (c.front.ensures ∙ z)),
-)
+claim_front-requires c =
+    let r = c.loop-i.invariant.refill in
+    let count = rw c.heads.ensures at c.count.ensures in
+    let front = rw c.heads-in-loop-i.ensures at c.front.ensures in
+    (
+      _,
+      refill_fronted _ _ _ _ _ _ _ r (omega arith) (omega (arith, c.if-count-k.false, count)) _ c.replenish.ensures.cells
+          (λ z. c.if-front-eq0.false (front ∙ z)),
+    )
 
-pub overflow_add-i : goal.overflow_add-i
-overflow_add-i c = let r = c.loop-left.invariant in omega (arith, capacity_few r.working, r.taken, c.loop-left-test.true)
+pub loop-i-preserved : goal.loop-i-preserved
+loop-i-preserved c =
+    let l = c.loop-i.invariant in
+    let count = rw c.heads.ensures at c.count.ensures in
+    let front = rw c.heads-in-loop-i.ensures at c.front.ensures in
+    record {
+      lent = lent_on (lent_on l.lent c.replenish.ensures.lent) c.claim_front.ensures.lent;
+      refill = refill_again _ _ _ _ _ _ _ l.refill (omega arith) (omega (arith, c.if-count-k.false, count)) _
+      c.replenish.ensures.cells (λ z. c.if-front-eq0.false (front ∙ z)) _ _ refl c.claim_front.ensures.cells _ (omega arith);
+    }
 
-pub loop-left-preserved : goal.loop-left-preserved
-loop-left-preserved c =
-    let a = c.claim_front.auto in
-    let b = c.replenish.auto in
-    refill_again _ _ _ _ _ _ _ c.loop-left.invariant c.loop-left-test.true (omega (arith, c.if-count-k.false, c.count.ensures)) _
-    (c.replenish.ensures c.loop-left.entries) (λ z. c.if-front-eq0.false (c.front.ensures ∙ z)) _ _ c.word_at-word.ensures (c.claim_front.ensures _)
-    (a.bits ∙ b.bits) (a.spans ∙ b.spans) a.entries (a.heads ∙ b.heads)
+pub returns-clause-lent : goal.returns-clause-lent
+returns-clause-lent c = c.loop-i.invariant.lent
 
-pub returns : goal.returns
-returns c = sym (refill_out _ _ _ _ _ _ c.loop-left-test.false) ∙ c.loop-left.invariant.same
+pub returns-clause-refilled : goal.returns-clause-refilled
+returns-clause-refilled c = refill_done _ _ _ _ _ _ _ c.loop-i.invariant.refill (omega arith)
