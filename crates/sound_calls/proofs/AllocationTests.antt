@@ -12,10 +12,14 @@ use Rattle.size_classes.specs.SlotSizes.{Admissible}
 use Rattle.tables.specs.declared.ClassHeap.{ClassHeap}
 use Rattle.tables.specs.Shape.{Shape, class_heap}
 use Rattle.tables.specs.Cells.{Tables}
-use Rattle.calls.specs.declared.Answer.{Answer}
-use Rattle.calls.specs.Outcome.{Outcome, ended, refusal}
+use Rattle.calls.specs.Outcome.{Outcome, refused}
 use Rattle.calls.specs.Heap.{alloc_small}
 use Rattle.calls.specs.Calls.{words_needed, allocate_sound}
+
+-- What is no `Some` is `None`.
+pub none_is : (o : Option ℕ) → ((x : ℕ) → o ≡ Some x → ⊥) → o ≡ None
+none_is (Some x) h = absurd (h x refl)
+none_is None h = refl
 
 -- The class that was found is one of the list.
 pub found_class : (sizes : List ℕ) → Admissible sizes → (size alignment c : ℕ) → class_of sizes size alignment ≡ Some c → c < length sizes
@@ -47,19 +51,19 @@ module _ (sizes : List ℕ) (size alignment : ℕ) where
   within_range c e = let r : in_range sizes size alignment ≡ true = sym found_in ∙ ap is_class e in (r, ap (class_in 0) (rw r at e))
 
 module _ (g : Shape) (t : Tables) (heap size alignment : ℕ) (ws : List ℕ) where
-  pub no_heap_lem : (r : Answer) → r ≡ refusal 3 → g.heaps ≤ heap → ended r t ≡ allocate_sound g t heap size alignment ws
+  pub no_heap_lem : g.heaps ≤ heap → refused 3 t ≡ allocate_sound g t heap size alignment ws
   unfolding allocate_sound
-  no_heap_lem r e l = rw (e, le-ltb heap g.heaps l)
+  no_heap_lem l = rw (le-ltb heap g.heaps l)
 
   module _ (hh : heap < g.heaps) where
-    pub few_words_lem : (r : Answer) → r ≡ refusal 4 → length ws < words_needed → ended r t ≡ allocate_sound g t heap size alignment ws
+    pub few_words_lem : length ws < words_needed → refused 4 t ≡ allocate_sound g t heap size alignment ws
     unfolding allocate_sound
-    few_words_lem r e l = rw (e, lt-ltb heap g.heaps hh, lt-leb words_needed (length ws) l)
+    few_words_lem l = rw (lt-ltb heap g.heaps hh, lt-leb words_needed (length ws) l)
 
     module _ (hw : words_needed ≤ length ws) where
-      pub too_large_lem : (r : Answer) → r ≡ refusal 5 → class_of g.sizes size alignment ≡ None → ended r t ≡ allocate_sound g t heap size alignment ws
+      pub too_large_lem : class_of g.sizes size alignment ≡ None → refused 5 t ≡ allocate_sound g t heap size alignment ws
       unfolding allocate_sound
-      too_large_lem r n e = rw (n, lt-ltb heap g.heaps hh, le-leb words_needed (length ws) hw, out_of_range g.sizes size alignment e)
+      too_large_lem e = rw (lt-ltb heap g.heaps hh, le-leb words_needed (length ws) hw, out_of_range g.sizes size alignment e)
 
       pub in_class_lem :
           (c : ℕ) (k : ClassHeap) (o : Outcome) → class_of g.sizes size alignment ≡ Some c → k ≡ class_heap g heap c →

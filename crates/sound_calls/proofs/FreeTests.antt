@@ -15,9 +15,7 @@ use Rattle.span.specs.State.{state_in, state_of, out_state}
 use Rattle.sound.specs.Sound.{home_of, Belongs}
 use Rattle.filled_magazines.proofs.FilledFacts.{span_belongs}
 use Rattle.heap.specs.Freeable.{Freeable}
-use Rattle.calls.specs.declared.Answer.{Answer}
-use Rattle.calls.specs.Outcome.{Outcome, ended, outcome, refusal}
-use Rattle.calls.specs.Primary.{dealloc_small}
+use Rattle.calls.specs.Outcome.{Outcome, refused}
 use Rattle.calls.specs.Calls.{names_slot, freed, free_sound}
 use Rattle.sound_calls.specs.Lent.{Block, free_block}
 
@@ -40,16 +38,8 @@ module _ {n : ℕ} {k : ClassHeap} {t : Tables} {s q : ℕ} (x : Block n k t s q
   state_here = ap (λ (l : ClassHeap). state_in t l s q) (sym x.home)
 
   -- and may be freed where it is out.
-  pub block_freeable : (state : BlockState) (out : Bool) → state ≡ state_in t k s q → out ≡ out_state state → out ≡ true → Freeable n k t s q
-  block_freeable state out told says e =
-      record { working = x.working; belongs = block_belongs; inside = x.inside; out = state_here ∙ sym told ∙ out_state_lem state (sym says ∙ e) }
-
-module _ (t : Tables) (k : ClassHeap) (heap s offset q : ℕ) (state : BlockState) (told : state ≡ state_in t k s q) (out : Bool) (says : out ≡ out_state state) where
-  pub block_not_out : (r : Answer) → r ≡ refusal 8 → out ≡ false → ended r t ≡ free_block t k heap s offset q
-  block_not_out r e z = rw (e, ← told, ← says, z)
-
-  pub block_out : (t' : Tables) → out ≡ true → t' ≡ dealloc_small t k heap s q → outcome 0 s offset 0 t' ≡ free_block t k heap s offset q
-  block_out t' z e = rw (← told, ← says, z, e)
+  pub block_freeable : Out ≡ state_in t k s q → Freeable n k t s q
+  block_freeable told = record { working = x.working; belongs = block_belongs; inside = x.inside; out = state_here ∙ sym told }
 
 -- ---- the slot at an offset
 
@@ -85,23 +75,23 @@ pub home_here : (g : Shape) (t : Tables) (s : ℕ) {owner class : ℕ} {k : Clas
 home_here g t s e o c = rw (← o, ← c) e
 
 module _ (g : Shape) (t : Tables) (heap s offset : ℕ) where
-  pub no_heap_lem : (r : Answer) → r ≡ refusal 3 → g.heaps ≤ heap → ended r t ≡ free_sound g t heap s offset
+  pub no_heap_lem : g.heaps ≤ heap → refused 3 t ≡ free_sound g t heap s offset
   unfolding free_sound
-  no_heap_lem r e l = rw (e, le-ltb heap g.heaps l)
+  no_heap_lem l = rw (le-ltb heap g.heaps l)
 
   module _ (hh : heap < g.heaps) where
-    pub not_used : (r : Answer) → r ≡ refusal 7 → t.used ≤ s → ended r t ≡ free_sound g t heap s offset
+    pub not_used : t.used ≤ s → refused 7 t ≡ free_sound g t heap s offset
     unfolding free_sound names_slot
-    not_used r e l = rw (e, lt-ltb heap g.heaps hh, le-ltb s t.used l)
+    not_used l = rw (lt-ltb heap g.heaps hh, le-ltb s t.used l)
 
     module _ (hs : s < t.used) (k : ClassHeap) (home : k ≡ home_of g t s) where
       slot_here : k.slot ≡ slot_size g.sizes (class_at t s)
       unfolding class_heap
       slot_here = ap (λ (l : ClassHeap). l.slot) home
 
-      pub no_slot : (r : Answer) → r ≡ refusal 7 → slot_at k.slot offset ≡ None → ended r t ≡ free_sound g t heap s offset
+      pub no_slot : slot_at k.slot offset ≡ None → refused 7 t ≡ free_sound g t heap s offset
       unfolding free_sound names_slot
-      no_slot r e z = rw (e, lt-ltb heap g.heaps hh, lt-ltb s t.used hs, ← slot_here, starts_not k.slot offset z)
+      no_slot z = rw (lt-ltb heap g.heaps hh, lt-ltb s t.used hs, ← slot_here, starts_not k.slot offset z)
 
       pub at_slot : (q : ℕ) (o : Outcome) → slot_at k.slot offset ≡ Some q → o ≡ free_block t k heap s offset q → o ≡ free_sound g t heap s offset
       unfolding free_sound names_slot freed state_of
