@@ -4,6 +4,3 @@ use Rattle.class_choice.proofs.from_layout.Goals as goal
 
 pub class_of-requires : goal.class_of-requires
 class_of-requires c = rw (c.slot_sizes-sizes.ensures, c.made-lookup.ensures) class_tables
-
-pub returns : goal.returns
-returns c = rw c.slot_sizes-sizes.ensures at c.class_of.ensures
