@@ -165,14 +165,3 @@ pub found_at :
 unfolding aligned_from
 found_at sizes a start k from l m passed =
     first_is (λ j. eqb (slot_size sizes j % a) 0) (length sizes) start k from (omega arith) (eq-eqb (slot_size sizes k % a) 0 m) passed
-
--- The last class is aligned.
-pub found_last :
-    (sizes : List ℕ) (a start k : ℕ) →
-    Search sizes a start →
-    start ≤ k →
-    k ≡ length sizes - 1 →
-    ((j : ℕ) → start ≤ j → j < k → eqb (slot_size sizes j % a) 0 ≡ false) →
-    aligned_from sizes a start ≡ k
-found_last sizes a start k q from l passed =
-    found_at sizes a start k from (omega (arith, q.class)) (rw l q.last) passed

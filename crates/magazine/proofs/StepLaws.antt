@@ -1,14 +1,12 @@
--- Stores to the entries and the heads that come to a step of the magazine, and places that are within the lent entries. Assumes nothing.
+-- Stores to the entries and the heads that come to a step of the magazine. Assumes nothing.
 use mathlib.Core.Path.{◌≡◌}
 use mathlib.Core.List.{List}
-use Prim.Native.Nat.{ℕ, ◌+◌, ◌-◌, ◌%◌, ◌<◌}
-use native.Mathlib.Nat.{mod-lt}
-use native.Mathlib.Omega.{arith}
-use lib.ListN.{length, set, get_or}
+use Prim.Native.Nat.{ℕ, ◌+◌, ◌-◌, ◌%◌}
+use lib.ListN.{set, get_or}
 use Rattle.tables.specs.declared.ClassHeap.{ClassHeap}
 use Rattle.tables.specs.Cells.{tables, head_cell, counter}
 use Rattle.magazine.specs.Magazine.{push_entry, pop_entry, draw_entry}
-use Rattle.magazine.specs.Room.{count_in, Room}
+use Rattle.magazine.specs.Room.{count_in}
 
 module _ (b p e e₁ h h₁ : List ℕ) (u : ℕ) (k : ClassHeap) (c : ℕ) (ec : c ≡ count_in h k) where
   -- A store above the count and a count one higher are a push.
@@ -38,7 +36,3 @@ pub pop_made :
     tables b p e h₁ u ≡ pop_entry (tables b p e h u) k
 unfolding pop_entry
 pop_made b p e h h₁ u k c ec r = rw (r, ec)
-
--- The drawn place is among the entries.
-pub drawn_in : (e h : List ℕ) (k : ClassHeap) (word c : ℕ) → Room e h k → c ≡ count_in h k → 0 < c → k.base + word % c < length e
-drawn_in e h k word c m ec z = omega (arith, mod-lt word z, m.held, m.fits)

@@ -1,8 +1,5 @@
 -- `span::load` meets its contract. Assumes nothing.
-use mathlib.Core.Path.{ap, ◌∙◌}
-use Prim.Native.Nat.{ℕ}
 use native.Mathlib.Omega.{arith}
-use lib.ListN.{take, drop}
 use Rattle.span.proofs.CellsThere.{summary_there, local_there, field_there}
 use Rattle.span.proofs.load.Goals as goal
 
@@ -17,9 +14,3 @@ word-requires c = summary_there _ _ c.requires.words 0 (omega arith)
 
 pub field-requires : goal.field-requires
 field-requires c = field_there _ _ c.requires.fields 2 (omega arith)
-
-pub returns : goal.returns
-returns c =
-    let a = c.args in
-    let w = c.words_from-words.ensures ∙ ap (λ (z : ℕ). take 64 (drop z a.bits.now)) c.bitmap_cell.ensures in
-    λ e h u t. record { summary = c.word.ensures t; words = w t; count = c.field.ensures t }

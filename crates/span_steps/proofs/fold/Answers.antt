@@ -3,9 +3,6 @@ use mathlib.Core.Path.{sym, ◌∙◌}
 use Rattle.span.specs.Span.{folded}
 use Rattle.span_steps.proofs.fold.Goals as goal
 
-pub has_pending-requires : goal.has_pending-requires
-has_pending-requires c = c.requires.span_cells.words
-
 pub returns-then-has_pending : goal.returns-then-has_pending
 unfolding folded
 returns-then-has_pending c = λ e h u. rw (sym (c.has_pending.ensures c.args.spans.now e h u) ∙ c.if-has_pending.true) (c.reclaim_pending.ensures e h u)

@@ -6,7 +6,7 @@ use Prim.Native.Nat.{ℕ}
 use native.Mathlib.Omega.{arith}
 use Rattle.occupancy.specs.declared.Occupancy.{Occupancy}
 use Rattle.occupancy.specs.Occupied.{fold_in}
-use Rattle.span.proofs.CellsThere.{remote_there, part_is, part_long}
+use Rattle.span.proofs.CellsThere.{remote_there, part_is}
 use Rattle.span_steps.proofs.less_pending.Goals as goal
 
 pub bitmap_cell-from-requires : goal.bitmap_cell-from-requires
@@ -21,13 +21,10 @@ offset_bounds-bits-from c = search (rules, remote_there _ _ c.requires.span_cell
 pub slice_bounds-fold_in-end : goal.slice_bounds-fold_in-end
 slice_bounds-fold_in-end c = search (rules, remote_there _ _ c.requires.span_cells.words, c.bitmap_cell-from.ensures)
 
-pub fold_in-requires : goal.fold_in-requires
-fold_in-requires c =
+pub fold_in-requires-clause-by_index : goal.fold_in-requires-clause-by_index
+fold_in-requires-clause-by_index c =
     let p = part_is c.args.bits.now c.bitmap_cell-from.result _ c.bitmap_cell-from.ensures in
-    record {
-      pending_len = rw p (part_long c.args.bits.now _ (remote_there _ _ c.requires.span_cells.words));
-      by_index = (c.requires.by_index.0, (rw (c.load-o.ensures [] [] 0) c.requires.by_index.1.right, rw (c.load-o.ensures [] [] 0, p) c.requires.by_index.1.pending));
-    }
+    (c.requires.by_index.0, (rw (c.load-o.ensures [] [] 0) c.requires.by_index.1.right, rw (c.load-o.ensures [] [] 0, p) c.requires.by_index.1.pending))
 
 pub returns : goal.returns
 returns c =

@@ -1,5 +1,4 @@
 -- `span_steps::push_claimed` meets its contract: what is left to push falls by the entry pushed. Assumes nothing.
-use borrow.Author.Rules.{rules}
 use mathlib.Core.Path.{◌≡◌, sym, ◌∙◌}
 use native.Mathlib.Omega.{arith}
 use Rattle.span.specs.Span.{claimed_entries}
@@ -11,15 +10,9 @@ pub loop-b-init : goal.loop-b-init
 unfolding claimed_entries
 loop-b-init c = starts _ _ _ _ _ c.requires.room (rw c.entry_of-first.ensures c.requires.mask_bound)
 
-pub overflow_add-first : goal.overflow_add-first
-overflow_add-first c = search (rules, c.entry_of-first.ensures, c.requires.i_bound.1)
-
-pub push-requires : goal.push-requires
-push-requires c =
-    record {
-      room = c.loop-b.invariant.room;
-      k_bound = has_room _ _ _ _ _ _ _ _ c.loop-b.invariant c.loop-b-test.true (sym c.test_bit.ensures ∙ c.if-test_bit.true);
-    }
+pub push-requires-clause-k_bound : goal.push-requires-clause-k_bound
+push-requires-clause-k_bound c =
+    has_room _ _ _ _ _ _ _ _ c.loop-b.invariant c.loop-b-test.true (sym c.test_bit.ensures ∙ c.if-test_bit.true)
 
 pub loop-b-preserved : goal.loop-b-preserved
 loop-b-preserved c =

@@ -1,17 +1,9 @@
 -- `span_steps::reclaim_pending` meets its contract. Assumes nothing.
-use borrow.Author.Rules.{rules}
-use mathlib.Core.Path.{◌≡◌, ap, ◌∙◌}
-use native.Mathlib.Omega.{arith}
-use lib.ListN.{length}
+use mathlib.Core.Path.{ap, ◌∙◌}
 use Rattle.occupancy.specs.declared.Occupancy.{Occupancy}
 use Rattle.tables.specs.Cells.{Tables, tables}
 use Rattle.span.specs.Span.{stored, clear_pending, reclaim_pending}
 use Rattle.span_steps.proofs.reclaim_pending.Goals as goal
-
-pub clear_pending-requires : goal.clear_pending-requires
-clear_pending-requires c =
-    let l : length c.store.new.bits ≡ length c.args.bits.now = search rules in
-    record { there = omega (arith, c.requires.span_cells.words.there) }
 
 pub returns : goal.returns
 unfolding reclaim_pending

@@ -22,9 +22,6 @@ returns-then-max-eq0 c =
           sym (claim_full c.requires.0 a.self c.requires.1 a.max a.random w.if-summary.true)
     ]
 
-pub free_word-i-requires : goal.free_word-i-requires
-free_word-i-requires c = omega (arith, c.requires.1.top)
-
 pub overflow_add-count : goal.overflow_add-count
 overflow_add-count c =
     let r = c.requires.1 in
