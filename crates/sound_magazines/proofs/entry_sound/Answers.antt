@@ -8,8 +8,8 @@ use Rattle.sound_magazines.proofs.entry_sound.Goals as goal
 pub field-requires : goal.field-requires
 field-requires c = field_there _ _ (fields_there c.requires c.if-s-used.false) _ (omega arith)
 
-pub field-requires-2 : goal.field-requires-2
-field-requires-2 c = field_there _ _ (fields_there c.requires c.if-s-used.false) _ (omega arith)
+pub field-requires-then-field-k : goal.field-requires-then-field-k
+field-requires-then-field-k c = field_there _ _ (fields_there c.requires c.if-s-used.false) _ (omega arith)
 
 pub word-requires : goal.word-requires
 word-requires c = local_word_there _ _ (words_there c.requires c.if-s-used.false) _ (slot_word_low c.args.e _ c.entry_slot-q.ensures)
