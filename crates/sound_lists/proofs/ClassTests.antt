@@ -71,9 +71,6 @@ module _ (t : Tables) (k : ClassHeap) where
   )
 
   -- One is not.
-  pub partial_fault : (ListSound t k partial_list (Between 1 k.slots) → ⊥) → ClassLists t k → ⊥
-  partial_fault n w = n (list_as t k {P = Partial k} {Q = Between 1 k.slots} (λ i b. b) w.partial)
-
   pub full_fault : (ListSound t k full_list (Between k.slots (k.slots + 1)) → ⊥) → ClassLists t k → ⊥
   full_fault n w = n (list_as t k (of_full t k) w.full)
 

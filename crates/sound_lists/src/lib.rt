@@ -36,17 +36,10 @@ fn link_fits(spans: &[u64], k: ClassHeap, s: u64, p: u64, low: u64, high: u64, u
     if s >= used {
         return false;
     }
-    if tables::field(spans, s, PREVIOUS) != p {
-        return false;
-    }
-    if tables::field(spans, s, CLASS) != k.class {
-        return false;
-    }
-    if tables::field(spans, s, OWNER) != k.owner {
-        return false;
-    }
-    let n = tables::field(spans, s, OCCUPIED);
-    low <= n && n < high
+    tables::field(spans, s, PREVIOUS) == p
+        && tables::field(spans, s, CLASS) == k.class
+        && tables::field(spans, s, OWNER) == k.owner
+        && (low..high).contains(&tables::field(spans, s, OCCUPIED))
 }
 
 // How many spans list f holds, each with a count from low on and below high; none where the list is not right.

@@ -27,17 +27,11 @@ fn entry_sound(bits: &[u64], spans: &[u64], k: ClassHeap, used: u64, e: u64) -> 
     if s >= used {
         return false;
     }
-    if tables::field(spans, s, CLASS) != k.class {
-        return false;
-    }
-    if tables::field(spans, s, OWNER) != k.owner {
-        return false;
-    }
     let q = tables::entry_slot(e);
-    if q >= k.slots {
-        return false;
-    }
-    bits::test_bit(tables::word(bits, s, LOCAL_WORDS + q / 64), q % 64)
+    tables::field(spans, s, CLASS) == k.class
+        && tables::field(spans, s, OWNER) == k.owner
+        && q < k.slots
+        && bits::test_bit(tables::word(bits, s, LOCAL_WORDS + q / 64), q % 64)
         && !bits::test_bit(tables::word(bits, s, REMOTE_WORDS + q / 64), q % 64)
 }
 

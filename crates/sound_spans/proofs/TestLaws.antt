@@ -1,6 +1,6 @@
 -- What two tests that are compared tell, and what an answer that is a test says. Assumes nothing.
 use mathlib.Core.Path.{◌≡◌, refl, sym, ◌∙◌}
-use mathlib.Core.Bool.{Bool, true, false, not, beq, true≢false}
+use mathlib.Core.Bool.{Bool, true, false, beq, true≢false}
 use Prim.Native.Nat.{ℕ}
 use lib.Dec.{eqb}
 use borrow.Author.Tests.{eqb-true, eqb-false}
@@ -22,11 +22,6 @@ granted false p e = absurd (true≢false (sym e))
 pub refuted : (r : Bool) {P : Type 0} → Says r P → r ≡ false → P → ⊥
 refuted true n e p = true≢false e
 refuted false n e p = n p
-
--- An answer that turns a test round says what the test's failing amounts to.
-pub says_not : (r : Bool) {P : Type 0} → (r ≡ false → P) → (P → r ≡ false) → Says (not r) P
-says_not true f g = λ p. true≢false (g p)
-says_not false f g = f refl
 
 -- Two tests that are compared, where the first is known.
 pub says_beq : (a b t : Bool) → a ≡ t → Says (beq a b) (t ≡ b)

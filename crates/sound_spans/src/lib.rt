@@ -64,8 +64,7 @@ pub fn spans_filled(sizes: &[u64], bits: &[u64], spans: &[u64], heaps: u64, used
             ok = false;
             break 'spans;
         }
-        let at = class as usize;
-        let slots = size_classes::slots_per_span(sizes[at]);
+        let slots = size_classes::slots_per_span(sizes[class as usize]);
         let summary = tables::word(bits, s, LOCAL_SUMMARY);
         let pending = tables::word(bits, s, REMOTE_SUMMARY);
         let mut sum: u64 = 0;

@@ -3,7 +3,6 @@ use mathlib.Core.Path.{◌≡◌, refl, sym, ap, subst, ◌∙◌}
 use mathlib.Core.List.{List, ◌++◌}
 use Prim.Native.Nat.{ℕ, zero, suc, ◌+◌, ◌<◌, ◌≤◌}
 use native.Mathlib.Nat.{add-zero, zero-add}
-use native.Mathlib.Numerals.{add-one}
 use native.Mathlib.Decide.{ℕ_discrete}
 use native.Mathlib.Omega.{arith}
 use lib.ListN.{length, get_or, set, length-set}
@@ -15,11 +14,6 @@ use Rattle.summary_records.specs.Structured.{record_at, records_from, filled}
 pub filled_length : (flat : List ℕ) (out : List ClassRecord) (n : ℕ) → length (filled flat out n) ≡ length out
 filled_length flat out zero = refl
 filled_length flat out (suc n) = length-set (filled flat out n) n (record_at flat n) ∙ filled_length flat out n
-
--- One record more.
-pub filled_next :
-    (flat : List ℕ) (out : List ClassRecord) (n : ℕ) (r : ClassRecord) → r ≡ record_at flat n → set (filled flat out n) n r ≡ filled flat out (n + 1)
-filled_next flat out n r e = ap (set (filled flat out n) n) e ∙ ap (filled flat out) (sym (add-one n))
 
 -- Records after those that are written stay.
 pub filled_left :

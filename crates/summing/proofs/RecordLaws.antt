@@ -16,18 +16,6 @@ use Rattle.summing.proofs.ColumnLaws.{cell_in, name_in, column_other, column_mor
 
 -- ---- one class is written
 
--- No class is written.
-pub written_none : (sizes heads : List ℕ) (heaps : ℕ) {out : List ℕ} → length out ≡ length sizes * summary_cells → Written sizes heads heaps out 0 out
-written_none sizes heads heaps l =
-    record {
-      long = l;
-      of_spans = record { at = λ c h. refl };
-      of_slots = record { at = λ c h. absurd (let z : ⊥ = omega arith in z) };
-      of_used = record { at = λ c h. refl };
-      of_cached = record { at = λ c h. absurd (let z : ⊥ = omega arith in z) };
-      of_pending = record { at = λ c h. refl };
-    }
-
 module _ {sizes heads : List ℕ} {heaps : ℕ} {before : List ℕ} {n : ℕ} {out : List ℕ} (h : n < length sizes) (w : Written sizes heads heaps before n out) where
   -- One class more.
   pub written_more : Written sizes heads heaps before (n + 1) (class_written sizes heads heaps n out)

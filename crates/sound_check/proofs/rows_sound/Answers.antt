@@ -43,19 +43,6 @@ overflow_mul-rows c = omega (arith, few_rows c.requires.admissible c.requires.ro
 pub loop-r-init : goal.loop-r-init
 loop-r-init c = record { bases = λ most n. base_first _ c.requires.admissible.some; passed = λ most n. passed_none _ _ }
 
-pub nonzero_div-r : goal.nonzero_div-r
-nonzero_div-r c = omega (arith, c.requires.admissible.some)
-
-pub nonzero_rem-r : goal.nonzero_rem-r
-nonzero_rem-r c = omega (arith, c.requires.admissible.some)
-
-pub class_at-k-requires : goal.class_at-k-requires
-class_at-k-requires c =
-    record {
-      admissible = c.requires.admissible;
-      class_in_bounds = mod-lt c.loop-r.r c.requires.admissible.some;
-    }
-
 pub class_met-requires : goal.class_met-requires
 class_met-requires c =
     record {

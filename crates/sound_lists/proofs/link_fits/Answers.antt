@@ -7,11 +7,11 @@ use Rattle.sound_lists.proofs.link_fits.Goals as goal
 pub field-requires : goal.field-requires
 field-requires c = field_there _ _ (record_there c.requires c.if-s-used.false) _ (omega arith)
 
-pub field-requires-2 : goal.field-requires-2
-field-requires-2 c = field_there _ _ (record_there c.requires c.if-s-used.false) _ (omega arith)
+pub field-requires-then-field-p : goal.field-requires-then-field-p
+field-requires-then-field-p c = field_there _ _ (record_there c.requires c.if-s-used.false) _ (omega arith)
 
-pub field-requires-3 : goal.field-requires-3
-field-requires-3 c = field_there _ _ (record_there c.requires c.if-s-used.false) _ (omega arith)
+pub field-requires-then-field-k : goal.field-requires-then-field-k
+field-requires-then-field-k c = field_there _ _ (record_there c.requires c.if-s-used.false) _ (omega arith)
 
-pub field-n-requires : goal.field-n-requires
-field-n-requires c = field_there _ _ (record_there c.requires c.if-s-used.false) _ (omega arith)
+pub field-requires-then-field-k-2 : goal.field-requires-then-field-k-2
+field-requires-then-field-k-2 c = field_there _ _ (record_there c.requires c.if-s-used.false) _ (omega arith)

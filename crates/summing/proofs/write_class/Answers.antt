@@ -6,16 +6,6 @@ use Rattle.summing.specs.Tally.{slots_cell}
 use Rattle.summing.proofs.StepLaws.{class_cell, class_cell_still, slots_fit, class_is_written}
 use Rattle.summing.proofs.write_class.Goals as goal
 
-pub slots_per_span-slots-requires : goal.slots_per_span-slots-requires
-slots_per_span-slots-requires c = c.requires.admissible.positive _ c.requires.class_fits.class
-
-pub cached-cached-requires : goal.cached-cached-requires
-cached-cached-requires c =
-    record {
-      heads_count = c.requires.class_fits.counts;
-      c_lt_classes = c.requires.class_fits.class;
-    }
-
 pub cell-spans-requires : goal.cell-spans-requires
 cell-spans-requires c = class_cell c.requires.class_fits (omega arith)
 
