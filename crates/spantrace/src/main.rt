@@ -169,6 +169,7 @@ fn named(e: u64, s: u64) -> u64
 }
 
 // How many entries of a magazine name span s.
+#[tactic(auto, using(crate::proofs::TraceLaws::named_none, crate::proofs::TraceLaws::named_more))]
 fn cached(entries: &[u64], base: u64, count: u64, s: u64) -> u64
     requires { base + count ≤ length entries.now }
     ensures { result ≡ named_in entries.now base s count }
