@@ -169,6 +169,7 @@ fn named(e: u64, s: u64) -> u64
 }
 
 // How many entries of a magazine name span s.
+#[tactic(auto, using(crate::proofs::TraceLaws::named_none, crate::proofs::TraceLaws::named_more))]
 fn cached(entries: &[u64], base: u64, count: u64, s: u64) -> u64
     requires { base + count ≤ length entries.now }
     ensures { result ≡ named_in entries.now base s count }
@@ -236,9 +237,10 @@ impl Trace {
         trace
     }
 
-    // Performs whole records. The number is not 0 where the batch was refused as a whole, and then no answer was written.
-    fn perform(&mut self, bytes: &[u8], answers: &mut [u64; CHUNK_ANSWERS]) -> u64 {
-        laggersten::batch(
+    // Performs whole records, three numbers for each; where the batch is refused as a whole, the refusal's number.
+    fn perform(&mut self, bytes: &[u8]) -> Result<[u64; CHUNK_ANSWERS], u64> {
+        let mut answers = [0; CHUNK_ANSWERS];
+        let refusal = laggersten::batch(
             HEAPS,
             SPANS,
             &mut self.bits,
@@ -247,8 +249,13 @@ impl Trace {
             &mut self.heads,
             &mut self.used,
             bytes,
-            answers,
-        )
+            &mut answers,
+        );
+        if refusal == 0 {
+            Ok(answers)
+        } else {
+            Err(refusal)
+        }
     }
 
     // The line of the next record.
@@ -264,16 +271,19 @@ impl Trace {
         requires { length bytes.now ≤ 14336 }
     {
         let end = whole_bytes(bytes);
-        let mut answers = [0; CHUNK_ANSWERS];
-        let refusal = self.perform(&bytes[..end], &mut answers);
-        let (triples, _) = answers.as_chunks::<3>();
-        for triple in &triples[..end / RECORD_BYTES] {
-            let answer = if refusal == 0 {
-                Answer::from(*triple)
-            } else {
-                Answer::of_number(refusal)
-            };
-            self.put_next(answer, text);
+        let count = end / RECORD_BYTES;
+        match self.perform(&bytes[..end]) {
+            Ok(answers) => {
+                let (triples, _) = answers.as_chunks::<3>();
+                for triple in &triples[..count] {
+                    self.put_next(Answer::from(*triple), text);
+                }
+            }
+            Err(refusal) => {
+                for _ in 0..count {
+                    self.put_next(Answer::of_number(refusal), text);
+                }
+            }
         }
         if end < bytes.len() {
             self.put_next(Answer::of_number(MALFORMED), text);
