@@ -79,7 +79,7 @@ fn entry(lookup: &[u8; 8192], b: u64) -> u64
 }
 
 // The first class from `class` on whose slot is a multiple of the alignment. The last slot is one.
-#[tactic(auto, using(crate::proofs::ChoiceLaws::found_at, crate::proofs::ChoiceLaws::found_last))]
+#[tactic(auto, using(crate::proofs::ChoiceLaws::found_at))]
 fn aligned_from(sizes: &SlotSizes, alignment: u64, class: u64) -> u64
     requires { Search sizes.now alignment class }
     ensures { result ≡ aligned_from sizes.now alignment class }

@@ -9,14 +9,20 @@ use Rattle.fresh.proofs.right_lengths.Goals as goal
 pub overflow_mul-heaps : goal.overflow_mul-heaps
 unfolding most_heaps most_classes most_capacity
 overflow_mul-heaps c =
-    rw c.entries_per_heap.ensures (omega (arith, bases_small _ c.requires.admissible c.requires.heaps_le_most_heaps.0))
+    let few = rw (← c.shape.view_is) at c.requires in
+    let e = c.entries_per_heap.ensures in
+    rw e.entries (omega (arith, bases_small _ e.admissible few.0))
 
 pub overflow_mul-result : goal.overflow_mul-result
 unfolding most_heaps most_classes
 overflow_mul-result c =
-    omega (arith, rows_small _ c.requires.admissible c.requires.heaps_le_most_heaps.0)
+    let few = rw (← c.shape.view_is) at c.requires in
+    let e = c.classes.ensures in
+    rw e.count (omega (arith, rows_small _ e.admissible few.0))
 
-pub overflow_mul-result-then-entries-heaps : goal.overflow_mul-result-then-entries-heaps
+pub overflow_mul-result-then-view-heaps : goal.overflow_mul-result-then-view-heaps
 unfolding most_heaps most_classes
-overflow_mul-result-then-entries-heaps c =
-    omega (arith, rows_small _ c.requires.admissible c.requires.heaps_le_most_heaps.0)
+overflow_mul-result-then-view-heaps c =
+    let few = rw (← c.shape.view_is) at c.requires in
+    let e = c.classes.ensures in
+    rw e.count (omega (arith, rows_small _ e.admissible few.0))
