@@ -8,7 +8,7 @@ use lib.Seq.{length-sets}
 use mathlib.Core.Bool.{false}
 use borrow.Author.Tests.{eq-eqb, ne_eqb}
 use lib.Dec.{leb}
-use Rattle.tables.specs.Shape.{shape}
+use Rattle.tables.specs.Shape.{Shape}
 use Rattle.tables.specs.Cells.{Tables}
 use Rattle.calls.specs.Outcome.{Outcome}
 use Rattle.calls.specs.Run.{perform_sound}
@@ -20,72 +20,45 @@ use Rattle.call_laws.proofs.SingleLaws.{perform_lent}
 length_answered : (a : List ℕ) (i : ℕ) (o : Outcome) → length (answered a i o) ≡ length a
 length_answered a i o = length-sets a (i * answer_cells) (o.answer.number ∷ o.answer.span ∷ o.answer.offset ∷ [])
 
--- the records before i are answered, and `left` are to come; what is lent keeps its lengths
-pub record Answering (sizes : List ℕ) (heaps spans : ℕ) (bytes a₀ : List ℕ) (t₀ : Tables) (a : List ℕ) (t : Tables) (i n : ℕ) : Type 0 where
-  pub most : ℕ
+-- the records before i are answered, and `left` are to come
+pub record Answering (g : Shape) (bytes a₀ : List ℕ) (t₀ : Tables) (a : List ℕ) (t : Tables) (i n : ℕ) : Type 0 where
   pub left : ℕ
   pub total : i + left ≡ n
-  pub lent : Lent (shape sizes most heaps spans) t
-  pub bits_length : length t.bits ≡ length t₀.bits
-  pub spans_length : length t.spans ≡ length t₀.spans
-  pub entries_length : length t.entries ≡ length t₀.entries
-  pub heads_length : length t.heads ≡ length t₀.heads
+  pub lent : Lent g t
   pub answers_length : length a ≡ length a₀
-  pub same : (m : ℕ) → batch_from left i (shape sizes m heaps spans) t bytes a ≡ batch_from n 0 (shape sizes m heaps spans) t₀ bytes a₀
+  pub same : batch_from left i g t bytes a ≡ batch_from n 0 g t₀ bytes a₀
 
-pub answering_none :
-    (sizes : List ℕ) (heaps spans : ℕ) (bytes a : List ℕ) (t : Tables) (n most : ℕ) → Lent (shape sizes most heaps spans) t →
-    Answering sizes heaps spans bytes a t a t 0 n
-answering_none sizes heaps spans bytes a t n most x =
-    record {
-      most = most;
-      left = n;
-      total = omega arith;
-      lent = x;
-      bits_length = refl;
-      spans_length = refl;
-      entries_length = refl;
-      heads_length = refl;
-      answers_length = refl;
-      same = λ m. refl;
-    }
+pub answering_none : (g : Shape) (bytes a : List ℕ) (t : Tables) (n : ℕ) → Lent g t → Answering g bytes a t a t 0 n
+answering_none g bytes a t n x = record { left = n; total = omega arith; lent = x; answers_length = refl; same = refl }
 
-module _ (sizes : List ℕ) (heaps spans : ℕ) (bytes a₀ : List ℕ) (t₀ : Tables) (a : List ℕ) (t : Tables) (i n : ℕ) (w : Answering sizes heaps spans bytes a₀ t₀ a t i n) where
+module _ {g : Shape} {bytes a₀ : List ℕ} {t₀ : Tables} {a : List ℕ} {t : Tables} {i n : ℕ} (w : Answering g bytes a₀ t₀ a t i n) where
   -- what record i comes to
-  abbrev here : ℕ → Outcome
-  here m = perform_sound (shape sizes m heaps spans) t (record_call bytes (i * record_bytes))
+  abbrev here : Outcome
+  here = perform_sound g t (record_call bytes (i * record_bytes))
 
   pub answering_more :
-      (a' : List ℕ) (t' : Tables) → i < n → ((m : ℕ) → t' ≡ (here m).table) → ((m : ℕ) → a' ≡ answered a i (here m)) →
-      length t'.bits ≡ length t.bits → length t'.spans ≡ length t.spans → length t'.entries ≡ length t.entries →
-      length t'.heads ≡ length t.heads → Answering sizes heaps spans bytes a₀ t₀ a' t' (i + 1) n
+      (a' : List ℕ) (t' : Tables) → i < n → t' ≡ here.table → a' ≡ answered a i here → Answering g bytes a₀ t₀ a' t' (i + 1) n
   unfolding batch_from
-  answering_more a' t' l e d lb ls le lh = go w.left w.total w.same
+  answering_more a' t' l e d = go w.left w.total w.same
     where
-      go : (left : ℕ) → i + left ≡ n → ((m : ℕ) → batch_from left i (shape sizes m heaps spans) t bytes a ≡ batch_from n 0 (shape sizes m heaps spans) t₀ bytes a₀) → Answering sizes heaps spans bytes a₀ t₀ a' t' (i + 1) n
+      go : (left : ℕ) → i + left ≡ n → batch_from left i g t bytes a ≡ batch_from n 0 g t₀ bytes a₀ → Answering g bytes a₀ t₀ a' t' (i + 1) n
       go zero z s = absurd (let y : ⊥ = omega arith in y)
       go (suc k) z s =
           record {
-            most = w.most;
             left = k;
             total = omega (arith, z);
-            lent = rw (e w.most) (perform_lent w.lent (record_call bytes (i * record_bytes)));
-            bits_length = lb ∙ w.bits_length;
-            spans_length = ls ∙ w.spans_length;
-            entries_length = le ∙ w.entries_length;
-            heads_length = lh ∙ w.heads_length;
-            answers_length = ap length (d w.most) ∙ length_answered a i (here w.most) ∙ w.answers_length;
+            lent = rw e (perform_lent w.lent (record_call bytes (i * record_bytes)));
+            answers_length = ap length d ∙ length_answered a i here ∙ w.answers_length;
             same =
-                λ m.
-                ap (λ (u : Tables). batch_from k (i + 1) (shape sizes m heaps spans) u bytes a') (e m)
-                ∙ ap (λ (x : List ℕ). batch_from k (i + 1) (shape sizes m heaps spans) (here m).table bytes x) (d m) ∙ s m;
+                ap (λ (u : Tables). batch_from k (i + 1) g u bytes a') e
+                ∙ ap (λ (x : List ℕ). batch_from k (i + 1) g here.table bytes x) d ∙ s;
           }
 
-  pub answering_all : n ≤ i → (m : ℕ) → batched 0 a t ≡ batch_from n 0 (shape sizes m heaps spans) t₀ bytes a₀
+  pub answering_all : n ≤ i → batched 0 a t ≡ batch_from n 0 g t₀ bytes a₀
   unfolding batch_from
-  answering_all l m = go w.left w.total (w.same m)
+  answering_all l = go w.left w.total w.same
     where
-      go : (left : ℕ) → i + left ≡ n → batch_from left i (shape sizes m heaps spans) t bytes a ≡ batch_from n 0 (shape sizes m heaps spans) t₀ bytes a₀ → batched 0 a t ≡ batch_from n 0 (shape sizes m heaps spans) t₀ bytes a₀
+      go : (left : ℕ) → i + left ≡ n → batch_from left i g t bytes a ≡ batch_from n 0 g t₀ bytes a₀ → batched 0 a t ≡ batch_from n 0 g t₀ bytes a₀
       go zero z s = s
       go (suc k) z s = absurd (let y : ⊥ = omega arith in y)
 
@@ -98,12 +71,6 @@ pub answer_there :
     (i n m long before : ℕ) → i < n → n ≡ m → m * answer_cells ≤ before → long ≡ before → i * answer_cells + answer_cells ≤ long
 unfolding answer_cells
 answer_there i n m long before l e h d = omega arith
-
--- The count of records is a batch's.
-pub counted :
-    (sizes : List ℕ) (most heaps spans : ℕ) (bytes a : List ℕ) (t : Tables) (n : ℕ) → n ≡ length bytes / record_bytes →
-    batch_from n 0 (shape sizes most heaps spans) t bytes a ≡ batch_from (length bytes / record_bytes) 0 (shape sizes most heaps spans) t bytes a
-counted sizes most heaps spans bytes a t n e = ap (λ (k : ℕ). batch_from k 0 (shape sizes most heaps spans) t bytes a) e
 
 -- ---- whole records
 

@@ -1,3 +1,3 @@
-pub mod KindLaws
+pub mod RecordLaws
 pub mod AnswerLaws
 pub mod BatchLoop

@@ -1,18 +1,20 @@
 // A batch on a table that is known to be sound: records of 28 bytes, answered one after the other.
 #![tactic(auto)]
 
-ghost use Rattle.std.specs.Prelude.{◌≡◌, [], ◌∷◌, ℕ, ◌+◌, ◌*◌, ◌/◌, ◌<◌, ◌≤◌, length};
+ghost use Rattle.std.specs.Prelude.{◌≡◌, [], ◌∷◌, ◌+◌, ◌*◌, ◌/◌, ◌<◌, ◌≤◌, length};
 ghost use Rattle.std.proofs.lemmas.List.Edits.{sets};
-ghost use Rattle.class_lookup.specs.Lookup.{ClassTables};
-ghost use Rattle.tables.specs.Shape.{shape};
-ghost use Rattle.tables.specs.Cells.{tables as table};
+ghost use Rattle.tables.specs.Lent.{cells, SameLent};
 ghost use Rattle.calls.specs.Outcome.{ended};
+ghost use Rattle.calls.specs.Answered.{answer_of};
 ghost use Rattle.calls.specs.Run.{perform_sound};
 ghost use Rattle.calls.specs.Batch.{record_bytes, marked, record_call, answer_cells, answered, batched, batch_from, whole_records};
 ghost use Rattle.sound_calls.specs.Lent.{Lent};
-ghost use Rattle.batching.specs.Kinds.{kind_number};
+ghost use Rattle.batching.specs.Records.{call_of};
 
-use calls::Answer;
+use calls::{Accepted, Answer};
+use class_choice::Classes;
+use refusals::Refusal;
+use tables::{LentTables, Shape};
 
 const FIRST_MARK: u64 = 0xA5;
 
@@ -26,74 +28,93 @@ const ALLOCATION: u64 = 1;
 
 const RELEASE: u64 = 2;
 
+// What a record of a batch asks for.
+#[derive(Clone, Copy)]
+enum Record {
+    Allocate {
+        heap: u64,
+        size: u64,
+        alignment: u64,
+        seed: u64,
+    },
+    Free {
+        heap: u64,
+        span: u64,
+        offset: u64,
+    },
+}
+
 // Whether the record that starts at a place has the mark.
 fn marked_at(bytes: &[u8], at: u64) -> bool
     requires { at + record_bytes ≤ length bytes.now }
     ensures { result ≡ marked bytes.now at }
 {
-    if batch_records::byte_at(bytes, at) != FIRST_MARK {
-        return false;
-    }
-    batch_records::byte_at(bytes, at + 1) == SECOND_MARK
+    batch_records::byte_at(bytes, at) == FIRST_MARK
+        && batch_records::byte_at(bytes, at + 1) == SECOND_MARK
 }
 
-// The kind of the record that starts at a place.
-fn kind_at(bytes: &[u8], at: u64) -> u64
+// The record that starts at a place; none where it is malformed.
+fn record_at(bytes: &[u8], at: u64) -> Option<Record>
     requires { at + record_bytes ≤ length bytes.now }
-    ensures { result ≡ kind_number bytes.now at }
+    ensures { call_of result ≡ record_call bytes.now at }
 {
     if !marked_at(bytes, at) {
-        return 0;
+        return None;
     }
     let kind = batch_records::byte_at(bytes, at + 2);
-    if kind == ALLOCATION {
-        return ALLOCATION;
-    }
-    if kind != RELEASE {
-        return 0;
-    }
-    if batch_records::number_at(bytes, at + 20) == 0 {
-        return RELEASE;
-    }
-    0
-}
-
-// The record that starts at a place: its call's answer, or 9.
-pub fn perform_record(
-    sizes: &[u64],
-    lookup: &[u8; 8192],
-    heaps: u64,
-    spans: u64,
-    bits: &mut [u64],
-    records: &mut [u64],
-    entries: &mut [u64],
-    heads: &mut [u64],
-    used: &mut u64,
-    bytes: &[u8],
-    at: u64,
-) -> Answer
-    requires class_tables { ClassTables sizes.now lookup.now }
-    requires by_index { (most : ℕ) × Lent (shape sizes.now most heaps spans) (table bits.old records.old entries.old heads.old used.old) }
-    requires record_bytes_in_bounds { at + record_bytes ≤ length bytes.now }
-    ensures { (most : ℕ) → ended result (table bits.new records.new entries.new heads.new used.new) ≡ perform_sound (shape sizes.now most heaps spans) (table bits.old records.old entries.old heads.old used.old) (record_call bytes.now at) }
-{
-    let kind = kind_at(bytes, at);
-    if kind == 0 {
-        return sound_calls::refusal(9);
-    }
     let heap = batch_records::byte_at(bytes, at + 3);
     let first = batch_records::number_at(bytes, at + 4);
     let second = batch_records::number_at(bytes, at + 12);
-    if kind == RELEASE {
-        return sound_calls::free_sound(
-            sizes, heaps, spans, bits, records, entries, heads, *used, heap, first, second,
-        );
+    let third = batch_records::number_at(bytes, at + 20);
+    if kind == ALLOCATION {
+        return Some(Record::Allocate {
+            heap,
+            size: first,
+            alignment: second,
+            seed: third,
+        });
     }
-    let words = batch_records::words_from(batch_records::number_at(bytes, at + 20));
-    sound_calls::allocate_sound(
-        sizes, lookup, heaps, spans, bits, records, entries, heads, used, heap, first, second,
-        &words,
-    )
+    if kind == RELEASE && third == 0 {
+        return Some(Record::Free {
+            heap,
+            span: first,
+            offset: second,
+        });
+    }
+    None
+}
+
+// The record that starts at a place, performed where it is no malformed one.
+pub fn perform_record(
+    shape: &Shape,
+    classes: &Classes,
+    tables: &mut LentTables,
+    bytes: &[u8],
+    at: u64,
+) -> Result<Accepted, Refusal>
+    requires sizes { classes.now ≡ shape.now.sizes }
+    requires lent { Lent shape.now (cells tables.old) }
+    requires record_bytes_in_bounds { at + record_bytes ≤ length bytes.now }
+    ensures lent { SameLent tables.old tables.new }
+    ensures ended { ended (answer_of result) (cells tables.new) ≡ perform_sound shape.now (cells tables.old) (record_call bytes.now at) }
+{
+    let Some(record) = record_at(bytes, at) else {
+        return Err(Refusal::Malformed);
+    };
+    match record {
+        Record::Allocate {
+            heap,
+            size,
+            alignment,
+            seed,
+        } => {
+            let words = batch_records::words_from(seed);
+            sound_calls::allocate_sound(shape, classes, tables, heap, size, alignment, &words)
+        }
+        Record::Free { heap, span, offset } => {
+            sound_calls::free_sound(shape, tables, heap, span, offset)
+        }
+    }
 }
 
 // Three numbers, from a place on.
@@ -117,39 +138,22 @@ fn put_answer(answers: &mut [u64], i: u64, answer: Answer)
 
 // Record i answered in its cells.
 fn answer_record(
-    sizes: &[u64],
-    lookup: &[u8; 8192],
-    heaps: u64,
-    spans: u64,
-    bits: &mut [u64],
-    records: &mut [u64],
-    entries: &mut [u64],
-    heads: &mut [u64],
-    used: &mut u64,
+    shape: &Shape,
+    classes: &Classes,
+    tables: &mut LentTables,
     bytes: &[u8],
     answers: &mut [u64],
     i: u64,
 )
-    requires class_tables { ClassTables sizes.now lookup.now }
-    requires by_index { (most : ℕ) × Lent (shape sizes.now most heaps spans) (table bits.old records.old entries.old heads.old used.old) }
+    requires sizes { classes.now ≡ shape.now.sizes }
+    requires lent { Lent shape.now (cells tables.old) }
     requires record_bytes_in_bounds { (i * record_bytes + record_bytes ≤ length bytes.now) × (i * answer_cells + answer_cells ≤ length answers.old) }
-    ensures by_index_2 { (most : ℕ) → table bits.new records.new entries.new heads.new used.new ≡ (perform_sound (shape sizes.now most heaps spans) (table bits.old records.old entries.old heads.old used.old) (record_call bytes.now (i * record_bytes))).table }
-    ensures by_index_3 { (most : ℕ) → answers.new ≡ answered answers.old i (perform_sound (shape sizes.now most heaps spans) (table bits.old records.old entries.old heads.old used.old) (record_call bytes.now (i * record_bytes))) }
+    ensures lent { SameLent tables.old tables.new }
+    ensures cells { cells tables.new ≡ (perform_sound shape.now (cells tables.old) (record_call bytes.now (i * record_bytes))).table }
+    ensures answers { answers.new ≡ answered answers.old i (perform_sound shape.now (cells tables.old) (record_call bytes.now (i * record_bytes))) }
 {
-    let answer = perform_record(
-        sizes,
-        lookup,
-        heaps,
-        spans,
-        bits,
-        records,
-        entries,
-        heads,
-        used,
-        bytes,
-        i * RECORD_BYTES,
-    );
-    put_answer(answers, i, answer);
+    let answer = perform_record(shape, classes, tables, bytes, i * RECORD_BYTES);
+    put_answer(answers, i, Answer::from(answer));
 }
 
 // How many records the bytes are.
@@ -161,30 +165,20 @@ fn record_count(bytes: &[u8]) -> u64
 
 // Every record of a batch, in order.
 pub fn batch_sound(
-    sizes: &[u64],
-    lookup: &[u8; 8192],
-    heaps: u64,
-    spans: u64,
-    bits: &mut [u64],
-    records: &mut [u64],
-    entries: &mut [u64],
-    heads: &mut [u64],
-    used: &mut u64,
+    shape: &Shape,
+    classes: &Classes,
+    tables: &mut LentTables,
     bytes: &[u8],
     answers: &mut [u64],
 )
-    requires class_tables { ClassTables sizes.now lookup.now }
-    requires by_index { (most : ℕ) × Lent (shape sizes.now most heaps spans) (table bits.old records.old entries.old heads.old used.old) }
+    requires sizes { classes.now ≡ shape.now.sizes }
+    requires lent { Lent shape.now (cells tables.old) }
     requires answer_cells_in_bounds { length bytes.now / record_bytes * answer_cells ≤ length answers.old }
-    ensures { (most : ℕ) → batched 0 answers.new (table bits.new records.new entries.new heads.new used.new) ≡ batch_from (length bytes.now / record_bytes) 0 (shape sizes.now most heaps spans) (table bits.old records.old entries.old heads.old used.old) bytes.now answers.old }
+    ensures lent { SameLent tables.old tables.new }
+    ensures batched { batched 0 answers.new (cells tables.new) ≡ batch_from (length bytes.now / record_bytes) 0 shape.now (cells tables.old) bytes.now answers.old }
 {
-    let n = record_count(bytes);
-    let mut i: u64 = 0;
-    while i < n {
-        answer_record(
-            sizes, lookup, heaps, spans, bits, records, entries, heads, used, bytes, answers, i,
-        );
-        i += 1;
+    for i in 0..record_count(bytes) {
+        answer_record(shape, classes, tables, bytes, answers, i);
     }
 }
 
@@ -193,8 +187,5 @@ pub fn whole_records(bytes: &[u8], answers: &[u64]) -> bool
     ensures { result ≡ whole_records bytes.now answers.now }
 {
     let long = bytes.len() as u64;
-    if long % RECORD_BYTES != 0 {
-        return false;
-    }
-    long / RECORD_BYTES * ANSWER_CELLS <= answers.len() as u64
+    long % RECORD_BYTES == 0 && long / RECORD_BYTES * ANSWER_CELLS <= answers.len() as u64
 }

@@ -1,30 +1,27 @@
--- `batching::answer_record` meets its contract: the record's outcome, taken apart. Assumes nothing.
-use mathlib.Core.Path.{ap, ◌∙◌}
-use native.Mathlib.Omega.{arith}
-use Rattle.calls.specs.Outcome.{Outcome}
-use Rattle.calls.specs.Batch.{record_bytes, answered}
+use Rattle.std.proofs.Common.{rules, ◌≡◌, [], ◌∷◌, ◌+◌, ◌*◌, ◌/◌, ◌<◌, ◌≤◌, length, ℕ, ◌-◌, ◌%◌, Bool, true, false, nat_eq, nat_lt, List, ◌++◌, slice_index_or, slice_set, bit_and, bit_or, Fits, w8, w32, w64, Bor, MutBor}
+use Rattle.std.proofs.lemmas.List.Edits.{sets}
+use Rattle.tables.specs.Lent.{cells, SameLent}
+use Rattle.calls.specs.Outcome.{ended}
+use Rattle.calls.specs.Answered.{answer_of}
+use Rattle.calls.specs.Run.{perform_sound}
+use Rattle.calls.specs.Batch.{record_bytes, marked, record_call, answer_cells, answered, batched, batch_from, whole_records}
+use Rattle.sound_calls.specs.Lent.{Lent}
+use Rattle.batching.specs.Records.{call_of}
 use Rattle.batching.proofs.answer_record.Goals as goal
 
+-- src/lib.rt:155:64
 pub overflow_mul-i : goal.overflow_mul-i
-unfolding record_bytes
-overflow_mul-i c = omega (arith, c.requires.record_bytes_in_bounds.0)
+overflow_mul-i c = ?
 
-pub perform_record-answer-requires : goal.perform_record-answer-requires
-unfolding record_bytes
-perform_record-answer-requires c = let p = c.requires in
-    record {
-      class_tables = p.class_tables;
-      by_index = p.by_index;
-      record_bytes_in_bounds = p.record_bytes_in_bounds.0;
-    }
+-- src/lib.rt:155:9
+pub perform_record-answer-requires-clause-record_bytes_in_bounds :
+    goal.perform_record-answer-requires-clause-record_bytes_in_bounds
+perform_record-answer-requires-clause-record_bytes_in_bounds c = ?
 
-pub returns : goal.returns
-unfolding record_bytes
-returns c =
-    let a = c.args in
-    let done = c.perform_record-answer.ensures in
-    let put = c.put_answer.ensures in
-    record {
-      by_index_2 = λ most. ap (λ (o : Outcome). o.table) (done most);
-      by_index_3 = λ most. put ∙ ap (λ (o : Outcome). answered a.answers.now a.i o) (done most);
-    }
+-- src/lib.rt:140:1
+pub returns-clause-cells : goal.returns-clause-cells
+returns-clause-cells c = ?
+
+-- src/lib.rt:140:1
+pub returns-clause-answers : goal.returns-clause-answers
+returns-clause-answers c = ?

@@ -1,19 +1,18 @@
--- `batching::marked_at` meets its contract, byte by byte. Assumes nothing.
-use native.Mathlib.Omega.{arith}
-use Rattle.calls.specs.Batch.{record_bytes}
-use Rattle.batching.proofs.KindLaws.{other_mark, first_mark}
+use Rattle.std.proofs.Common.{rules, ◌≡◌, [], ◌∷◌, ◌+◌, ◌*◌, ◌/◌, ◌<◌, ◌≤◌, length, ℕ, ◌-◌, ◌%◌, Bool, true, false, nat_eq, nat_lt, List, ◌++◌, slice_index_or, slice_set, bit_and, bit_or, Fits, w8, w32, w64, Bor, MutBor}
+use Rattle.std.proofs.lemmas.List.Edits.{sets}
+use Rattle.tables.specs.Lent.{cells, SameLent}
+use Rattle.calls.specs.Outcome.{ended}
+use Rattle.calls.specs.Answered.{answer_of}
+use Rattle.calls.specs.Run.{perform_sound}
+use Rattle.calls.specs.Batch.{record_bytes, marked, record_call, answer_cells, answered, batched, batch_from, whole_records}
+use Rattle.sound_calls.specs.Lent.{Lent}
+use Rattle.batching.specs.Records.{call_of}
 use Rattle.batching.proofs.marked_at.Goals as goal
 
+-- src/lib.rt:52:5
 pub byte_at-requires : goal.byte_at-requires
-unfolding record_bytes
-byte_at-requires c = omega (arith, c.requires)
+byte_at-requires c = ?
 
-pub returns-then-byte_at-ne-FIRST_MARK : goal.returns-then-byte_at-ne-FIRST_MARK
-returns-then-byte_at-ne-FIRST_MARK c = let a = c.args in other_mark a.bytes.now a.at _ c.byte_at.ensures.0 c.if-byte_at-ne-FIRST_MARK.true
-
-pub byte_at-requires-2 : goal.byte_at-requires-2
-unfolding record_bytes
-byte_at-requires-2 c = omega (arith, c.requires)
-
-pub returns : goal.returns
-returns c = let a = c.args in first_mark a.bytes.now a.at _ _ c.byte_at.ensures.0 c.if-byte_at-ne-FIRST_MARK.false c.byte_at-2.ensures.0
+-- src/lib.rt:53:12
+pub byte_at-requires-then-byte_at-eq-FIRST_MARK : goal.byte_at-requires-then-byte_at-eq-FIRST_MARK
+byte_at-requires-then-byte_at-eq-FIRST_MARK c = ?

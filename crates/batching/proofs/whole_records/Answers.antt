@@ -1,12 +1,18 @@
--- `batching::whole_records` meets its contract. Assumes nothing.
-use Rattle.calls.specs.Batch.{record_bytes, answer_cells}
-use Rattle.batching.proofs.BatchLoop.{not_whole_lem, whole_if}
+use Rattle.std.proofs.Common.{rules, ◌≡◌, [], ◌∷◌, ◌+◌, ◌*◌, ◌/◌, ◌<◌, ◌≤◌, length, ℕ, ◌-◌, ◌%◌, Bool, true, false, nat_eq, nat_lt, List, ◌++◌, slice_index_or, slice_set, bit_and, bit_or, Fits, w8, w32, w64, Bor, MutBor}
+use Rattle.std.proofs.lemmas.List.Edits.{sets}
+use Rattle.tables.specs.Lent.{cells, SameLent}
+use Rattle.calls.specs.Outcome.{ended}
+use Rattle.calls.specs.Answered.{answer_of}
+use Rattle.calls.specs.Run.{perform_sound}
+use Rattle.calls.specs.Batch.{record_bytes, marked, record_call, answer_cells, answered, batched, batch_from, whole_records}
+use Rattle.sound_calls.specs.Lent.{Lent}
+use Rattle.batching.specs.Records.{call_of}
 use Rattle.batching.proofs.whole_records.Goals as goal
 
-pub returns-then-long-ne0 : goal.returns-then-long-ne0
-unfolding record_bytes
-returns-then-long-ne0 c = let a = c.args in not_whole_lem a.bytes.now a.answers.now c.if-long-ne0.true
+-- src/lib.rt:186:1
+pub returns-then-long-eq0 : goal.returns-then-long-eq0
+returns-then-long-eq0 c = ?
 
-pub returns : goal.returns
-unfolding record_bytes answer_cells
-returns c = let a = c.args in whole_if a.bytes.now a.answers.now c.if-long-ne0.false
+-- src/lib.rt:186:1
+pub returns-else-long-eq0 : goal.returns-else-long-eq0
+returns-else-long-eq0 c = ?
