@@ -78,7 +78,7 @@ fn entry(lookup: &[u8; 8192], b: u64) -> u64
     u64::from(lookup[b as usize])
 }
 
-// The first class from `class` on whose slot is a multiple of the alignment. The last slot is one.
+// The first class from `class` on whose slot is a multiple of the alignment: the last one, if none before it.
 #[tactic(auto, using(crate::proofs::ChoiceLaws::found_at))]
 fn aligned_from(sizes: &SlotSizes, alignment: u64, class: u64) -> u64
     requires { Search sizes.now alignment class }
