@@ -1,18 +1,15 @@
 -- The batch, a record at a time. Assumes nothing.
 use mathlib.Core.Path.{◌≡◌, refl, ap, ◌∙◌}
 use mathlib.Core.List.{List, [], ◌∷◌}
-use Prim.Native.Nat.{ℕ, zero, suc, ◌+◌, ◌*◌, ◌/◌, ◌%◌, ◌<◌, ◌≤◌}
+use Prim.Native.Nat.{ℕ, zero, suc, ◌+◌, ◌*◌, ◌/◌, ◌<◌, ◌≤◌}
 use native.Mathlib.Omega.{arith}
 use lib.ListN.{length}
 use lib.Seq.{length-sets}
-use mathlib.Core.Bool.{false}
-use borrow.Author.Tests.{eq-eqb, ne_eqb}
-use lib.Dec.{leb}
 use Rattle.tables.specs.Shape.{Shape}
 use Rattle.tables.specs.Cells.{Tables}
 use Rattle.calls.specs.Outcome.{Outcome}
 use Rattle.calls.specs.Run.{perform_sound}
-use Rattle.calls.specs.Batch.{record_bytes, record_call, answer_cells, answered, batched, batch_from, whole_records}
+use Rattle.calls.specs.Batch.{record_bytes, record_call, answer_cells, answered, batched, batch_from}
 use Rattle.sound_calls.specs.Lent.{Lent}
 use Rattle.call_laws.proofs.SingleLaws.{perform_lent}
 
@@ -71,14 +68,3 @@ pub answer_there :
     (i n m long before : ℕ) → i < n → n ≡ m → m * answer_cells ≤ before → long ≡ before → i * answer_cells + answer_cells ≤ long
 unfolding answer_cells
 answer_there i n m long before l e h d = omega arith
-
--- ---- whole records
-
-module _ (bytes answers : List ℕ) where
-  pub not_whole_lem : (length bytes % record_bytes ≡ 0 → ⊥) → false ≡ whole_records bytes answers
-  unfolding whole_records
-  not_whole_lem n = rw (ne_eqb (length bytes % record_bytes) 0 n)
-
-  pub whole_if : length bytes % record_bytes ≡ 0 → leb (length bytes / record_bytes * answer_cells) (length answers) ≡ whole_records bytes answers
-  unfolding whole_records
-  whole_if z = rw (eq-eqb (length bytes % record_bytes) 0 z)

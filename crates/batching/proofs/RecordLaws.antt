@@ -4,10 +4,8 @@ use mathlib.Core.Bool.{true, false}
 use mathlib.Core.List.{List}
 use Prim.Native.Nat.{ℕ, ◌+◌, ◌*◌}
 use native.Mathlib.Omega.{arith}
-use borrow.Author.Bool.{and-false}
 use borrow.Author.Tests.{eq-eqb, ne_eqb}
 use lib.ListN.{get_or}
-use lib.Dec.{eqb}
 use Rattle.calls.specs.Calls.{words_needed}
 use Rattle.calls.specs.Run.{allocation, release, malformed}
 use Rattle.calls.specs.Batch.{little_endian, number_at, marked, words_from, record_call}

@@ -45,6 +45,7 @@ enum Record {
 }
 
 // Whether the record that starts at a place has the mark.
+#[tactic(auto, unfolding(calls::specs::Batch::record_bytes))]
 fn marked_at(bytes: &[u8], at: u64) -> bool
     requires { at + record_bytes ≤ length bytes.now }
     ensures { result ≡ marked bytes.now at }
@@ -183,6 +184,7 @@ pub fn batch_sound(
 }
 
 // Whether the bytes are whole records, and the answers long enough.
+#[tactic(auto, unfolding(calls::specs::Batch::whole_records, calls::specs::Batch::record_bytes, calls::specs::Batch::answer_cells))]
 pub fn whole_records(bytes: &[u8], answers: &[u64]) -> bool
     ensures { result ≡ whole_records bytes.now answers.now }
 {

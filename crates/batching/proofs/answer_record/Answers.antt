@@ -1,27 +1,29 @@
-use Rattle.std.proofs.Common.{rules, ◌≡◌, [], ◌∷◌, ◌+◌, ◌*◌, ◌/◌, ◌<◌, ◌≤◌, length, ℕ, ◌-◌, ◌%◌, Bool, true, false, nat_eq, nat_lt, List, ◌++◌, slice_index_or, slice_set, bit_and, bit_or, Fits, w8, w32, w64, Bor, MutBor}
-use Rattle.std.proofs.lemmas.List.Edits.{sets}
-use Rattle.tables.specs.Lent.{cells, SameLent}
-use Rattle.calls.specs.Outcome.{ended}
-use Rattle.calls.specs.Answered.{answer_of}
-use Rattle.calls.specs.Run.{perform_sound}
-use Rattle.calls.specs.Batch.{record_bytes, marked, record_call, answer_cells, answered, batched, batch_from, whole_records}
-use Rattle.sound_calls.specs.Lent.{Lent}
-use Rattle.batching.specs.Records.{call_of}
+-- `batching::answer_record` meets its contract: the record's outcome, taken apart. Assumes nothing.
+use mathlib.Core.Path.{ap, ◌∙◌}
+use native.Mathlib.Omega.{arith}
+use Rattle.calls.specs.Outcome.{Outcome}
+use Rattle.calls.specs.Batch.{record_bytes, answered}
 use Rattle.batching.proofs.answer_record.Goals as goal
 
--- src/lib.rt:155:64
 pub overflow_mul-i : goal.overflow_mul-i
-overflow_mul-i c = ?
+unfolding record_bytes
+overflow_mul-i c = omega (arith, c.requires.record_bytes_in_bounds.0)
 
--- src/lib.rt:155:9
-pub perform_record-answer-requires-clause-record_bytes_in_bounds :
-    goal.perform_record-answer-requires-clause-record_bytes_in_bounds
-perform_record-answer-requires-clause-record_bytes_in_bounds c = ?
+pub perform_record-answer-requires : goal.perform_record-answer-requires
+unfolding record_bytes
+perform_record-answer-requires c = let p = c.requires in
+    record {
+      sizes = p.sizes;
+      lent = p.lent;
+      record_bytes_in_bounds = p.record_bytes_in_bounds.0;
+    }
 
--- src/lib.rt:140:1
 pub returns-clause-cells : goal.returns-clause-cells
-returns-clause-cells c = ?
+unfolding record_bytes
+returns-clause-cells c = ap (λ (o : Outcome). o.table) c.perform_record-answer.ensures.ended
 
--- src/lib.rt:140:1
 pub returns-clause-answers : goal.returns-clause-answers
-returns-clause-answers c = ?
+unfolding record_bytes
+returns-clause-answers c =
+    let a = c.args in
+    rw c.from.ensures at c.put_answer.ensures ∙ ap (λ (o : Outcome). answered a.answers.now a.i o) c.perform_record-answer.ensures.ended

@@ -1,30 +1,24 @@
-use Rattle.std.proofs.Common.{rules, ◌≡◌, [], ◌∷◌, ◌+◌, ◌*◌, ◌/◌, ◌<◌, ◌≤◌, length, ℕ, ◌-◌, ◌%◌, Bool, true, false, nat_eq, nat_lt, List, ◌++◌, slice_index_or, slice_set, bit_and, bit_or, Fits, w8, w32, w64, Bor, MutBor}
-use Rattle.std.proofs.lemmas.List.Edits.{sets}
-use Rattle.tables.specs.Lent.{cells, SameLent}
-use Rattle.calls.specs.Outcome.{ended}
-use Rattle.calls.specs.Answered.{answer_of}
-use Rattle.calls.specs.Run.{perform_sound}
-use Rattle.calls.specs.Batch.{record_bytes, marked, record_call, answer_cells, answered, batched, batch_from, whole_records}
-use Rattle.sound_calls.specs.Lent.{Lent}
-use Rattle.batching.specs.Records.{call_of}
+-- `batching::batch_sound` meets its contract. The loop's invariant: the records before i are answered. Assumes nothing.
+use mathlib.Core.Path.{ap, ◌∙◌}
+use Prim.Native.Nat.{ℕ}
+use native.Mathlib.Omega.{arith}
+use Rattle.tables.proofs.LentLaws.{lent_on}
+use Rattle.tables.specs.Lent.{cells}
+use Rattle.calls.specs.Batch.{batch_from}
+use Rattle.batching.proofs.BatchLoop.{answering_more, answering_all}
 use Rattle.batching.proofs.batch_sound.Goals as goal
 
--- src/lib.rt:180:5
-pub loop-i-init : goal.loop-i-init
-loop-i-init c = ?
-
--- src/lib.rt:181:9
-pub answer_record-requires-clause-lent : goal.answer_record-requires-clause-lent
-answer_record-requires-clause-lent c = ?
-
--- src/lib.rt:180:5
 pub loop-i-preserved : goal.loop-i-preserved
-loop-i-preserved c = ?
+loop-i-preserved c =
+    let l = c.loop-i.invariant in
+    let done = c.answer_record.ensures in
+    record {
+      lent = lent_on l.lent done.lent;
+      answering = answering_more l.answering _ _ (omega arith) done.cells done.answers;
+    }
 
--- src/lib.rt:167:1
-pub returns-clause-lent : goal.returns-clause-lent
-returns-clause-lent c = ?
-
--- src/lib.rt:167:1
 pub returns-clause-batched : goal.returns-clause-batched
-returns-clause-batched c = ?
+returns-clause-batched c =
+    let a = c.args in
+    answering_all c.loop-i.invariant.answering (omega arith)
+    ∙ ap (λ (n : ℕ). batch_from n 0 a.shape.now (cells a.tables.now) a.bytes.now a.answers.now) c.record_count-i-end.ensures

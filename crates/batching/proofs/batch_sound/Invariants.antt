@@ -1,13 +1,10 @@
-use Rattle.std.proofs.Common.{◌≡◌, [], ◌∷◌, ◌+◌, ◌*◌, ◌/◌, ◌<◌, ◌≤◌, length, ℕ, ◌-◌}
-use Rattle.std.proofs.lemmas.List.Edits.{sets}
+-- `batching::batch_sound` meets its contract. The loop's invariant: the records before i are answered. Assumes nothing.
 use Rattle.tables.specs.Lent.{cells, SameLent}
-use Rattle.calls.specs.Outcome.{ended}
-use Rattle.calls.specs.Answered.{answer_of}
-use Rattle.calls.specs.Run.{perform_sound}
-use Rattle.calls.specs.Batch.{record_bytes, marked, record_call, answer_cells, answered, batched, batch_from, whole_records}
-use Rattle.sound_calls.specs.Lent.{Lent}
-use Rattle.batching.specs.Records.{call_of}
+use Rattle.batching.proofs.BatchLoop.{Answering}
 use Rattle.batching.proofs.batch_sound.Given as goal
 
 abbrev pub invariant-loop-i : goal.invariant-loop-i
-invariant-loop-i l = ?
+invariant-loop-i l = record {
+  lent : SameLent l.initial.tables l.tables;
+  answering : Answering l.shape l.bytes l.initial.answers (cells l.initial.tables) l.answers (cells l.tables) l.i l.i-end;
+}

@@ -1,46 +1,51 @@
-use Rattle.std.proofs.Common.{rules, ◌≡◌, [], ◌∷◌, ◌+◌, ◌*◌, ◌/◌, ◌<◌, ◌≤◌, length, ℕ, ◌-◌, ◌%◌, Bool, true, false, nat_eq, nat_lt, List, ◌++◌, slice_index_or, slice_set, bit_and, bit_or, Fits, w8, w32, w64, Bor, MutBor}
-use Rattle.std.proofs.lemmas.List.Edits.{sets}
-use Rattle.tables.specs.Lent.{cells, SameLent}
-use Rattle.calls.specs.Outcome.{ended}
-use Rattle.calls.specs.Answered.{answer_of}
-use Rattle.calls.specs.Run.{perform_sound}
-use Rattle.calls.specs.Batch.{record_bytes, marked, record_call, answer_cells, answered, batched, batch_from, whole_records}
-use Rattle.sound_calls.specs.Lent.{Lent}
-use Rattle.batching.specs.Records.{call_of}
+-- `batching::record_at` meets its contract, test by test. Assumes nothing.
+use mathlib.Core.Path.{sym, ◌∙◌}
+use native.Mathlib.Omega.{arith}
+use Rattle.calls.specs.Batch.{record_bytes}
+use Rattle.batching.proofs.RecordLaws.{unmarked_record, allocation_record, release_record, other_record, unfree_record}
 use Rattle.batching.proofs.record_at.Goals as goal
+use Rattle.batching.proofs.record_at.Goals.{else-kind-eq-RELEASE-via-then-kind-eq-RELEASE+else-third-eq0, else-kind-eq-RELEASE-via-else-kind-eq-RELEASE}
 
--- src/lib.rt:62:9
 pub returns-then-not-marked_at : goal.returns-then-not-marked_at
-returns-then-not-marked_at c = ?
+returns-then-not-marked_at c = unmarked_record _ _ (sym c.marked_at.ensures ∙ c.if-not-marked_at.true)
 
--- src/lib.rt:64:9
 pub byte_at-kind-requires : goal.byte_at-kind-requires
-byte_at-kind-requires c = ?
+unfolding record_bytes
+byte_at-kind-requires c = omega (arith, c.requires)
 
--- src/lib.rt:65:9
 pub byte_at-heap-requires : goal.byte_at-heap-requires
-byte_at-heap-requires c = ?
+unfolding record_bytes
+byte_at-heap-requires c = omega (arith, c.requires)
 
--- src/lib.rt:66:9
 pub number_at-first-requires : goal.number_at-first-requires
-number_at-first-requires c = ?
+unfolding record_bytes
+number_at-first-requires c = omega (arith, c.requires)
 
--- src/lib.rt:67:9
 pub number_at-second-requires : goal.number_at-second-requires
-number_at-second-requires c = ?
+unfolding record_bytes
+number_at-second-requires c = omega (arith, c.requires)
 
--- src/lib.rt:68:9
 pub number_at-third-requires : goal.number_at-third-requires
-number_at-third-requires c = ?
+unfolding record_bytes
+number_at-third-requires c = omega (arith, c.requires)
 
--- src/lib.rt:70:9
 pub returns-then-kind-eq-ALLOCATION : goal.returns-then-kind-eq-ALLOCATION
-returns-then-kind-eq-ALLOCATION c = ?
+returns-then-kind-eq-ALLOCATION c =
+    allocation_record _ _ _ _ _ _ _ (sym c.marked_at.ensures ∙ c.if-not-marked_at.false) c.byte_at-kind.ensures.0 c.byte_at-heap.ensures.0
+    c.number_at-first.ensures c.number_at-second.ensures c.number_at-third.ensures c.if-kind-eq-ALLOCATION.true
 
--- src/lib.rt:78:9
 pub returns-then-third-eq0 : goal.returns-then-third-eq0
-returns-then-third-eq0 c = ?
+returns-then-third-eq0 c =
+    release_record _ _ _ _ _ _ _ (sym c.marked_at.ensures ∙ c.if-not-marked_at.false) c.byte_at-kind.ensures.0 c.byte_at-heap.ensures.0
+    c.number_at-first.ensures c.number_at-second.ensures c.number_at-third.ensures c.if-kind-eq-ALLOCATION.false c.if-kind-eq-RELEASE.true c.if-third-eq0.true
 
--- src/lib.rt:57:1
 pub returns : goal.returns
-returns c = ?
+returns c =
+    elim c.else-kind-eq-RELEASE.branch [
+      | else-kind-eq-RELEASE-via-then-kind-eq-RELEASE+else-third-eq0 w ↦
+          unfree_record _ _ _ _ _ _ _ (sym c.marked_at.ensures ∙ c.if-not-marked_at.false) c.byte_at-kind.ensures.0 c.byte_at-heap.ensures.0
+          c.number_at-first.ensures c.number_at-second.ensures c.number_at-third.ensures c.if-kind-eq-ALLOCATION.false w.if-kind-eq-RELEASE.true w.if-third-eq0.false
+      | else-kind-eq-RELEASE-via-else-kind-eq-RELEASE w ↦
+          other_record _ _ _ _ _ _ _ (sym c.marked_at.ensures ∙ c.if-not-marked_at.false) c.byte_at-kind.ensures.0 c.byte_at-heap.ensures.0
+          c.number_at-first.ensures c.number_at-second.ensures c.number_at-third.ensures c.if-kind-eq-ALLOCATION.false w.if-kind-eq-RELEASE.false
+    ]
