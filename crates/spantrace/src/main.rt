@@ -130,7 +130,7 @@ impl From<Place> for u8 {
     }
 }
 
-// What is printed of a used span.
+// What is said of a used span.
 #[derive(Drop)]
 struct SpanLine {
     span: u64,
@@ -143,6 +143,7 @@ struct SpanLine {
 }
 
 impl SpanLine {
+    // The line of a span: its number, slot size, owner, place, and its occupied, pending and cached slots.
     fn put_line<const N: usize>(&self, text: &mut Text<N>)
         ensures { WroteSpan N text.old self.now text.new }
     {
@@ -190,7 +191,7 @@ fn whole_bytes(bytes: &[u8]) -> usize
     bytes.len() / RECORD_BYTES * RECORD_BYTES
 }
 
-// Reads until the buffer is full, the input ends or a read fails. The answer is how many bytes were read.
+// Reads until the buffer is full, the input ends or a read fails. The answer is how many bytes were read, which std's `read_exact` does not tell.
 fn fill<R: Read>(input: &mut R, buf: &mut [u8]) -> usize
     ensures { result ≤ length buf.new }
 {

@@ -1,4 +1,5 @@
-// Text of a fixed size: bytes, words and decimal numbers, one after the other. What does not fit is left out, so no function has a condition.
+// Text of a fixed size: bytes, words and decimal numbers, one after the other. What does not fit is left out, so no function has a condition or fails.
+// A `write!` promises its text only where it is `Ok`, and nothing says when it is; what is put here stands there wherever it fits.
 #![tactic(auto)]
 
 ghost use Rattle.std.specs.Prelude.{◌≡◌, ◌≤◌, ℕ, List, [], ◌∷◌, length};
