@@ -9,6 +9,7 @@ ghost use Rattle.calls.specs.Outcome.{ended};
 ghost use Rattle.calls.specs.Calls.{allocate as allocated, free as released};
 
 use calls::Answer;
+use tables::LentTables;
 
 // The tables lent become a fresh table of so many heaps and spans; 1 where a number or a length is not as stated, and nothing is written.
 #[unsafe(no_mangle)]
@@ -23,7 +24,14 @@ pub extern "C" fn laggersten_leaf_new(
 ) -> u64
     ensures { numbered result (table bits.new records.new entries.new heads.new used.new) ≡ freshly (base_shape heaps spans) (table bits.old records.old entries.old heads.old used.old) }
 {
-    laggersten::fresh(heaps, spans, bits, records, entries, heads, used)
+    let mut tables = LentTables {
+        bits,
+        spans: records,
+        entries,
+        heads,
+        used,
+    };
+    refusals::number_of(laggersten::fresh(heaps, spans, &mut tables))
 }
 
 // A block for a request by a heap, with the words lent; a refusal changes nothing.
@@ -43,9 +51,15 @@ pub extern "C" fn laggersten_leaf_allocate(
 ) -> Answer
     ensures { ended result (table bits.new records.new entries.new heads.new used.new) ≡ allocated (base_shape heaps spans) (table bits.old records.old entries.old heads.old used.old) heap size alignment words.now }
 {
-    laggersten::allocate(
-        heaps, spans, bits, records, entries, heads, used, heap, size, alignment, words,
-    )
+    let mut tables = LentTables {
+        bits,
+        spans: records,
+        entries,
+        heads,
+        used,
+    };
+    let answer = laggersten::allocate(heaps, spans, &mut tables, heap, size, alignment, words);
+    Answer::from(answer)
 }
 
 // A block given back by a heap; a refusal changes nothing.
@@ -64,7 +78,13 @@ pub extern "C" fn laggersten_leaf_free(
 ) -> Answer
     ensures { ended result (table bits.new records.new entries.new heads.new used.new) ≡ released (base_shape heaps spans) (table bits.old records.old entries.old heads.old used.old) heap span offset }
 {
-    laggersten::free(
-        heaps, spans, bits, records, entries, heads, used, heap, span, offset,
-    )
+    let mut tables = LentTables {
+        bits,
+        spans: records,
+        entries,
+        heads,
+        used,
+    };
+    let answer = laggersten::free(heaps, spans, &mut tables, heap, span, offset);
+    Answer::from(answer)
 }

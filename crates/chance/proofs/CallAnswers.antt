@@ -1,7 +1,7 @@
 -- What the calls answer on a whole table, for the requests of a list: a block given before and not freed since is out, and its free is done.
 -- Assumes nothing.
-use Rattle.std.specs.Prelude.{Option, Some, None}
-use mathlib.Core.Path.{◌≡◌, refl, sym, ap, subst, ◌∙◌}
+use Rattle.std.specs.Prelude.{Some}
+use mathlib.Core.Path.{◌≡◌, sym, ap, subst, ◌∙◌}
 use mathlib.Core.Bool.{true}
 use mathlib.Core.List.{List}
 use Prim.Native.Nat.{ℕ, ◌*◌, ◌/◌, ◌^◌, ◌<◌, ◌≤◌}
@@ -26,7 +26,7 @@ use Rattle.outs.proofs.OutsLaws.{spans_belongs}
 use Rattle.sound_calls.specs.Lent.{Lent}
 use Rattle.sound_calls.proofs.LentLaws.{home_slot}
 use Rattle.sound_calls.proofs.AllocationTests.{found_class}
-use Rattle.sound_calls.proofs.FreeTests.{at_slot, block_out}
+use Rattle.sound_calls.proofs.FreeTests.{at_slot}
 use Rattle.chance.specs.Counts.{Whose}
 use Rattle.chance.specs.Chance.{Place}
 
@@ -109,4 +109,4 @@ module _ (g : Shape) {t : Tables} (small : g.spans * most_slots ≤ 2 ^ 64) (o :
         ap (λ (x : ClassHeap). out_state (state_in t x s q)) home ∙ (unfold state_of in ap out_state i.out) in
         sym
         (at_slot g t heap s offset hh b.used k home q (outcome 0 s offset 0 (dealloc_small t k heap s q)) z
-        (block_out t k heap s offset q (state_in t k s q) refl (out_state (state_in t k s q)) refl (dealloc_small t k heap s q) out refl))
+        (rw out))

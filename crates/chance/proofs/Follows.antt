@@ -14,7 +14,7 @@ use Rattle.size_classes.specs.Slots.{most_slots, slot_offset}
 use Rattle.tables.specs.declared.ClassHeap.{ClassHeap}
 use Rattle.tables.specs.Shape.{Shape, classes, class_heap}
 use Rattle.tables.specs.Cells.{Tables}
-use Rattle.calls.specs.Outcome.{Outcome, outcome, refusal, refused}
+use Rattle.calls.specs.Outcome.{Outcome, outcome, refused}
 use Rattle.calls.specs.Primary.{dealloc_small}
 use Rattle.calls.specs.Calls.{free_sound, free}
 use Rattle.sound.specs.Sound.{Belongs}
@@ -168,4 +168,4 @@ module _ (g : Shape) (small : g.spans * most_slots ≤ 2 ^ 64) (s : State) (m : 
       (freed_fits heap n live))
       (λ e.
       subst (λ (o : Outcome). Fits g (released s n o) (counted 3 m))
-      (no_heap_lem g t heap p.span p.offset (refusal 3) refl (ltb-false heap g.heaps e)) (refused_free n)))
+      (no_heap_lem g t heap p.span p.offset (ltb-false heap g.heaps e)) (refused_free n)))

@@ -103,8 +103,8 @@ pub fn free_sound(
     let owner = tables::field(tables.spans(), span, OWNER);
     let class = tables::field(tables.spans(), span, CLASS);
     let k = tables::class_heap(shape.sizes, owner, class);
-    let Some(q) = size_classes::slot_at(k.slot, offset) else {
-        return Err(Refusal::NoSuchSlot);
-    };
-    free_block(tables, k, heap, span, offset, q)
+    match size_classes::slot_at(k.slot, offset) {
+        Some(q) => free_block(tables, k, heap, span, offset, q),
+        None => Err(Refusal::NoSuchSlot),
+    }
 }

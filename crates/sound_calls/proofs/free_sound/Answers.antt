@@ -1,11 +1,10 @@
 -- `sound_calls::free_sound` meets its contract, by its tests. Assumes nothing.
-use mathlib.Core.Path.{sym, ◌∙◌}
+use mathlib.Core.Path.{sym}
 use native.Mathlib.Omega.{arith}
 use Rattle.tables.specs.Shape.{shape}
 use Rattle.tables.specs.Lent.{cells}
 use Rattle.span.proofs.CellsThere.{field_there}
 use Rattle.sound_calls.proofs.LentLaws.{lent_cells, lent_heaps, lent_owner, lent_class, home_slot, lent_block}
-use Rattle.sound_calls.proofs.AllocationTests.{none_is}
 use Rattle.sound_calls.proofs.FreeTests.{home_here, no_heap_lem, not_used, no_slot, at_slot}
 use Rattle.sound_calls.proofs.free_sound.Goals as goal
 
@@ -41,15 +40,15 @@ slot_at-requires c =
     home_slot x (omega (arith, c.if-span-tables.false))
     (home_here (shape g.sizes.now g.most g.heaps g.spans) (cells c.args.tables.now) c.args.span (c.class_heap-k.ensures g.most g.heaps g.spans) owner class)
 
-pub returns-in_default-clause-ended : goal.returns-in_default-clause-ended
-returns-in_default-clause-ended c =
+pub returns-in-None-clause-ended : goal.returns-in-None-clause-ended
+returns-in-None-clause-ended c =
     let g = c.shape.inside in
     let owner = rw c.spans.ensures at c.field-owner.ensures in
     let class = rw c.spans-2.ensures at c.field-class.ensures in
     rw (← c.shape.view_is)
     (no_slot _ _ _ _ _ (omega (arith, c.if-heap-shape.false)) (omega (arith, c.if-span-tables.false)) _
     (home_here (shape g.sizes.now g.most g.heaps g.spans) (cells c.args.tables.now) c.args.span (c.class_heap-k.ensures g.most g.heaps g.spans) owner class)
-    (sym c.slot_at.ensures ∙ none_is _ c.in_default.not-Some))
+    (sym c.in-None.ensures))
 
 pub free_block-requires : goal.free_block-requires
 free_block-requires c =
@@ -60,8 +59,8 @@ free_block-requires c =
     let k = home_here (shape g.sizes.now g.most g.heaps g.spans) (cells c.args.tables.now) c.args.span (c.class_heap-k.ensures g.most g.heaps g.spans) owner class in
     (_, lent_block x (omega (arith, c.if-span-tables.false)) k _ _ (sym c.in-Some.ensures))
 
-pub returns-clause-ended : goal.returns-clause-ended
-returns-clause-ended c =
+pub returns-in-Some-clause-ended : goal.returns-in-Some-clause-ended
+returns-in-Some-clause-ended c =
     let g = c.shape.inside in
     let owner = rw c.spans.ensures at c.field-owner.ensures in
     let class = rw c.spans-2.ensures at c.field-class.ensures in
