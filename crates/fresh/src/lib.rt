@@ -16,8 +16,7 @@ const MOST_HEAPS: u64 = 16;
 // Whether heaps and spans are within their limits.
 #[tactic(auto, unfolding(tables::specs::Cells::right_shape, tables::specs::Shape::most_heaps))]
 fn right_shape(shape: &Shape) -> bool
-    ensures value { result ≡ right_shape shape.now }
-    ensures few { shape.now.most ≤ 2 ^ 32 }
+    ensures { result ≡ right_shape shape.now }
 {
     1 <= shape.heaps
         && shape.heaps <= MOST_HEAPS
@@ -43,6 +42,7 @@ fn right_lengths(shape: &Shape, view: &TablesView) -> bool
 // Whether heaps, spans and every lent table's length are as stated.
 #[tactic(auto, unfolding(tables::specs::Cells::as_stated))]
 pub fn as_stated(shape: &Shape, view: &TablesView) -> bool
+    requires { shape.now.most ≤ 2 ^ 32 }
     ensures { result ≡ as_stated shape.now view.now }
 {
     right_shape(shape) && right_lengths(shape, view)
@@ -57,6 +57,7 @@ pub fn zero(cells: &mut [u64])
 
 // Makes the lent tables anew, where they are as stated.
 pub fn fresh(shape: &Shape, tables: &mut LentTables) -> Result<(), Refusal>
+    requires { shape.now.most ≤ 2 ^ 32 }
     ensures lent { SameLent tables.old tables.new }
     ensures numbered { numbered (number_of result) (cells tables.new) ≡ freshly shape.now (cells tables.old) }
 {

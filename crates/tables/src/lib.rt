@@ -87,14 +87,11 @@ pub struct Shape<'a> {
 }
 
 impl<'a> Model for Shape<'a> {
-    ghost use Rattle.std.specs.Prelude.{◌≤◌, ◌^◌};
     ghost use Rattle.tables.specs.Shape.{Shape, shape};
 
     ghost Value = { Shape };
 
     ghost view = { λ g. shape g.sizes.now g.most g.heaps g.spans };
-
-    ghost invariant = { λ g. g.most ≤ 2 ^ 32 };
 }
 
 // One class of one heap: its numbers, the row of its list heads and the base of its magazine.

@@ -6,5 +6,5 @@ use Rattle.fresh.proofs.as_stated.Goals as goal
 
 pub right_lengths-requires : goal.right_lengths-requires
 right_lengths-requires c =
-    let s = shape_passed c.args.shape.now (sym c.right_shape.ensures.value ∙ c.if-right_shape.true) in
-    (s.few_heaps, omega (arith, s.few_spans, c.right_shape.ensures.few))
+    let s = shape_passed c.args.shape.now (sym c.right_shape.ensures ∙ c.if-right_shape.true) in
+    (s.few_heaps, omega (arith, s.few_spans, c.requires))
