@@ -5,7 +5,10 @@ ghost use Rattle.std.specs.Prelude.{◌≡◌, ◌+◌, ◌*◌, ◌/◌, ◌<�
 ghost use Rattle.calls.specs.Batch.{record_bytes};
 ghost use Rattle.spantrace.specs.Trace.{WroteAnswer, WroteSpan, letter, place_of, naming, named_in};
 
+use refusals::Refusal;
+use size_classes::SlotSizes;
 use std::io::{Read, Write};
+use tables::LentTables;
 use trace_text::Text;
 
 // The tables of 4 heaps and 32 spans have 4160 bitmap words, 160 record cells, 3168 entries and 960 heads.
@@ -226,37 +229,30 @@ impl Trace {
             used: 0,
             done: 0,
         };
-        laggersten::fresh(
-            HEAPS,
-            SPANS,
-            &mut trace.bits,
-            &mut trace.records,
-            &mut trace.entries,
-            &mut trace.heads,
-            &mut trace.used,
-        );
+        let mut tables = LentTables {
+            bits: &mut trace.bits,
+            spans: &mut trace.records,
+            entries: &mut trace.entries,
+            heads: &mut trace.heads,
+            used: &mut trace.used,
+        };
+        // The arrays are as long as 4 heaps and 32 spans ask, so this is not refused.
+        let _ = laggersten::fresh(HEAPS, SPANS, &mut tables);
         trace
     }
 
-    // Performs whole records, three numbers for each; where the batch is refused as a whole, the refusal's number.
-    fn perform(&mut self, bytes: &[u8]) -> Result<[u64; CHUNK_ANSWERS], u64> {
+    // Performs whole records, three numbers for each; the batch may be refused as a whole.
+    fn perform(&mut self, bytes: &[u8]) -> Result<[u64; CHUNK_ANSWERS], Refusal> {
         let mut answers = [0; CHUNK_ANSWERS];
-        let refusal = laggersten::batch(
-            HEAPS,
-            SPANS,
-            &mut self.bits,
-            &mut self.records,
-            &mut self.entries,
-            &mut self.heads,
-            &mut self.used,
-            bytes,
-            &mut answers,
-        );
-        if refusal == 0 {
-            Ok(answers)
-        } else {
-            Err(refusal)
-        }
+        let mut tables = LentTables {
+            bits: &mut self.bits,
+            spans: &mut self.records,
+            entries: &mut self.entries,
+            heads: &mut self.heads,
+            used: &mut self.used,
+        };
+        laggersten::batch(HEAPS, SPANS, &mut tables, bytes, &mut answers)?;
+        Ok(answers)
     }
 
     // The line of the next record.
@@ -282,7 +278,7 @@ impl Trace {
             }
             Err(refusal) => {
                 for _ in 0..count {
-                    self.put_next(Answer::of_number(refusal), text);
+                    self.put_next(Answer::of_number(u64::from(refusal)), text);
                 }
             }
         }
@@ -319,7 +315,8 @@ impl Trace {
         if class >= CLASSES || owner >= HEAPS {
             return None;
         }
-        let sizes = size_classes::slot_sizes();
+        let list = size_classes::slot_sizes();
+        let sizes = SlotSizes::new(&list);
         let k = tables::class_heap(&sizes, owner, class);
         let count = tables::head(&self.heads, k.row, COUNTER);
         if count > k.capacity {
