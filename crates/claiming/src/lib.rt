@@ -9,11 +9,7 @@ ghost use Rattle.class_heap.specs.Steps.{if_full, taken, claim_from, claim_front
 ghost use Rattle.claiming.specs.Claimable.{Claimable, Own, Fronted};
 
 use occupancy::Claimed;
-use tables::{ClassHeap, LentTables};
-
-const PARTIAL: u64 = 0;
-
-const FULL: u64 = 1;
+use tables::{ClassHeap, LentTables, SpanList};
 
 // Span s, of the partial list, to the front of full if it became full.
 fn if_full(spans: &mut [u64], heads: &mut [u64], k: ClassHeap, s: u64)
@@ -21,8 +17,8 @@ fn if_full(spans: &mut [u64], heads: &mut [u64], k: ClassHeap, s: u64)
     ensures { (b e : List ℕ) (u : ℕ) → table b spans.new e heads.new u ≡ if_full (table b spans.old e heads.old u) k s }
 {
     if span::is_full(spans, k, s) {
-        linked_list::remove(spans, heads, k, PARTIAL, s);
-        linked_list::push(spans, heads, k, FULL, s);
+        linked_list::remove(spans, heads, k, SpanList::Partial, s);
+        linked_list::push(spans, heads, k, SpanList::Full, s);
     }
 }
 
@@ -58,7 +54,7 @@ pub fn claim_front(tables: &mut LentTables, k: ClassHeap, word: u64)
     ensures lent { SameLent tables.old tables.new }
     ensures cells { cells tables.new ≡ claim_front (cells tables.old) k word }
 {
-    let s = linked_list::front(tables.heads(), k.row, PARTIAL) - 1;
+    let s = linked_list::front(tables.heads(), k.row, SpanList::Partial) - 1;
     span_steps::fold(tables.bits, tables.spans, s);
     claim_from(tables, k, s, word);
 }

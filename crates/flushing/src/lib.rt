@@ -8,11 +8,7 @@ ghost use Rattle.class_heap.specs.Steps.{give_back, flush_one, flush as flushed}
 ghost use Rattle.placing.specs.Working.{Working};
 ghost use Rattle.flushing.specs.Returnable.{Returnable};
 
-use tables::{ClassHeap, LentTables};
-
-const PARTIAL: u64 = 0;
-
-const FULL: u64 = 1;
+use tables::{ClassHeap, LentTables, SpanList};
 
 // Slot q back to span s, which is unlinked and placed where it was full or is now empty.
 fn give_back(tables: &mut LentTables, k: ClassHeap, s: u64, q: u64)
@@ -23,11 +19,11 @@ fn give_back(tables: &mut LentTables, k: ClassHeap, s: u64, q: u64)
     let full = span::is_full(tables.spans(), k, s);
     span_steps::dealloc_slot(tables.bits, tables.spans, s, q);
     if full {
-        placing::refile(tables.spans, tables.heads, k, FULL, s);
+        placing::refile(tables.spans, tables.heads, k, SpanList::Full, s);
         return;
     }
     if span::is_empty(tables.spans(), s) {
-        placing::refile(tables.spans, tables.heads, k, PARTIAL, s);
+        placing::refile(tables.spans, tables.heads, k, SpanList::Partial, s);
     }
 }
 

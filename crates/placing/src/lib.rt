@@ -3,18 +3,11 @@
 
 ghost use Rattle.std.specs.Prelude.{◌≡◌, List, ℕ, ◌+◌, ◌<◌, ◌≤◌, get_or};
 ghost use Rattle.tables.specs.Cells.{tables as table, head_cell, reserve, empty_list};
+ghost use Rattle.tables.specs.ListPlace.{place as list_place};
 ghost use Rattle.linked_list.specs.Reach.{Links};
 ghost use Rattle.class_heap.specs.Steps.{demote as demoted, release_empty, place as placed, refile as refiled, reactivate as reactivated};
 
-use tables::ClassHeap;
-
-const PARTIAL: u64 = 0;
-
-const FULL: u64 = 1;
-
-const EMPTY: u64 = 2;
-
-const RESERVE: u64 = 3;
+use tables::{ClassHeap, SpanList};
 
 // The span that a link names, if any, to the front of the empty list.
 fn demote(spans: &mut [u64], heads: &mut [u64], k: ClassHeap, link: u64)
@@ -22,7 +15,7 @@ fn demote(spans: &mut [u64], heads: &mut [u64], k: ClassHeap, link: u64)
     ensures { (b e : List ℕ) (u : ℕ) → table b spans.new e heads.new u ≡ demoted (table b spans.old e heads.old u) k link }
 {
     if link != 0 {
-        linked_list::push(spans, heads, k, EMPTY, link - 1);
+        linked_list::push(spans, heads, k, SpanList::Empty, link - 1);
     }
 }
 
@@ -31,8 +24,8 @@ fn release_empty(spans: &mut [u64], heads: &mut [u64], k: ClassHeap, s: u64)
     requires { (n : ℕ) × Links n spans.old heads.old k.row × (s < n) }
     ensures { (b e : List ℕ) (u : ℕ) → table b spans.new e heads.new u ≡ release_empty (table b spans.old e heads.old u) k s }
 {
-    let old = tables::head(heads, k.row, RESERVE);
-    tables::put_head(heads, k.row, RESERVE, s + 1);
+    let old = linked_list::front(heads, k.row, SpanList::Reserve);
+    tables::put_head(heads, k.row, SpanList::Reserve as u64, s + 1);
     demote(spans, heads, k, old);
 }
 
@@ -46,19 +39,18 @@ pub fn place(spans: &mut [u64], heads: &mut [u64], k: ClassHeap, s: u64)
         return;
     }
     if span::is_full(spans, k, s) {
-        linked_list::push(spans, heads, k, FULL, s);
+        linked_list::push(spans, heads, k, SpanList::Full, s);
         return;
     }
-    linked_list::push(spans, heads, k, PARTIAL, s);
+    linked_list::push(spans, heads, k, SpanList::Partial, s);
 }
 
-// Span s out of list f, and placed.
-pub fn refile(spans: &mut [u64], heads: &mut [u64], k: ClassHeap, f: u64, s: u64)
-    requires by_index { (n : ℕ) × Links n spans.old heads.old k.row × (s < n) }
-    requires f_le_reserve { f ≤ reserve }
-    ensures { (b e : List ℕ) (u : ℕ) → table b spans.new e heads.new u ≡ refiled (table b spans.old e heads.old u) k f s }
+// Span s out of a list, and placed.
+pub fn refile(spans: &mut [u64], heads: &mut [u64], k: ClassHeap, list: SpanList, s: u64)
+    requires { (n : ℕ) × Links n spans.old heads.old k.row × (s < n) }
+    ensures { (b e : List ℕ) (u : ℕ) → table b spans.new e heads.new u ≡ refiled (table b spans.old e heads.old u) k (list_place list) s }
 {
-    linked_list::remove(spans, heads, k, f, s);
+    linked_list::remove(spans, heads, k, list, s);
     place(spans, heads, k, s);
 }
 
@@ -68,12 +60,12 @@ pub fn reactivate(spans: &mut [u64], heads: &mut [u64], k: ClassHeap)
     requires nonzero { 0 < get_or heads.old (head_cell k.row reserve) 0 + get_or heads.old (head_cell k.row empty_list) 0 }
     ensures { (b e : List ℕ) (u : ℕ) → table b spans.new e heads.new u ≡ reactivated (table b spans.old e heads.old u) k }
 {
-    let kept = tables::head(heads, k.row, RESERVE);
+    let kept = linked_list::front(heads, k.row, SpanList::Reserve);
     if kept != 0 {
-        tables::put_head(heads, k.row, RESERVE, 0);
-        linked_list::push(spans, heads, k, PARTIAL, kept - 1);
+        tables::put_head(heads, k.row, SpanList::Reserve as u64, 0);
+        linked_list::push(spans, heads, k, SpanList::Partial, kept - 1);
         return;
     }
-    let s = linked_list::pop(spans, heads, k, EMPTY);
-    linked_list::push(spans, heads, k, PARTIAL, s);
+    let s = linked_list::pop(spans, heads, k, SpanList::Empty);
+    linked_list::push(spans, heads, k, SpanList::Partial, s);
 }

@@ -7,9 +7,7 @@ ghost use Rattle.tables.specs.Cells.{head_cell, full_list};
 ghost use Rattle.class_heap.specs.Steps.{reclaim_one, reclaim as reclaimed};
 ghost use Rattle.placing.specs.Working.{Working};
 
-use tables::{ClassHeap, LentTables};
-
-const FULL: u64 = 1;
+use tables::{ClassHeap, LentTables, SpanList};
 
 const NEXT: u64 = 4;
 
@@ -21,7 +19,7 @@ fn reclaim_one(tables: &mut LentTables, k: ClassHeap, s: u64)
 {
     if span::has_pending(tables.bits(), s) {
         span_steps::reclaim_pending(tables.bits, tables.spans, s);
-        placing::refile(tables.spans, tables.heads, k, FULL, s);
+        placing::refile(tables.spans, tables.heads, k, SpanList::Full, s);
     }
 }
 
@@ -31,7 +29,7 @@ pub fn reclaim(tables: &mut LentTables, k: ClassHeap)
     ensures lent { SameLent tables.old tables.new }
     ensures cells { cells tables.new ≡ reclaimed tables.old.used.now (cells tables.old) k (get_or tables.old.heads.now (head_cell k.row full_list) 0) }
 {
-    let mut at = linked_list::front(tables.heads(), k.row, FULL);
+    let mut at = linked_list::front(tables.heads(), k.row, SpanList::Full);
     for _turn in 0..*tables.used {
         if at == 0 {
             break;

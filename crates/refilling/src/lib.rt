@@ -7,9 +7,7 @@ ghost use Rattle.class_heap.specs.Steps.{refilled, refill as refills};
 ghost use Rattle.placing.specs.Working.{Working};
 ghost use Rattle.refilling.specs.Fronts.{Fronts};
 
-use tables::{ClassHeap, LentTables};
-
-const PARTIAL: u64 = 0;
+use tables::{ClassHeap, LentTables, SpanList};
 
 // Claims until the magazine is full, each with the next word; the answer is the number of words used.
 pub fn refill(tables: &mut LentTables, limit: u64, k: ClassHeap, words: &[u64]) -> u64
@@ -24,7 +22,7 @@ pub fn refill(tables: &mut LentTables, limit: u64, k: ClassHeap, words: &[u64]) 
             return i;
         }
         replenishing::replenish(tables, limit, k);
-        if linked_list::front(tables.heads(), k.row, PARTIAL) == 0 {
+        if linked_list::front(tables.heads(), k.row, SpanList::Partial) == 0 {
             return i;
         }
         claiming::claim_front(tables, k, words[i as usize]);

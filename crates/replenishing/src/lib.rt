@@ -7,13 +7,7 @@ ghost use Rattle.tables.specs.Cells.{tables as table, head_cell, empty_list, res
 ghost use Rattle.class_heap.specs.Steps.{none_empty, create as created, supply as supplied, replenish as replenished};
 ghost use Rattle.placing.specs.Working.{Working};
 
-use tables::{ClassHeap, LentTables};
-
-const PARTIAL: u64 = 0;
-
-const EMPTY: u64 = 2;
-
-const RESERVE: u64 = 3;
+use tables::{ClassHeap, LentTables, SpanList};
 
 // The next unused span, written new, to the front of partial.
 fn create(tables: &mut LentTables, k: ClassHeap)
@@ -23,7 +17,7 @@ fn create(tables: &mut LentTables, k: ClassHeap)
 {
     let s = *tables.used;
     span::new_span(tables.bits, tables.spans, tables.used, k);
-    linked_list::push(tables.spans, tables.heads, k, PARTIAL, s);
+    linked_list::push(tables.spans, tables.heads, k, SpanList::Partial, s);
 }
 
 // Neither a reserve nor an empty span is there.
@@ -31,10 +25,10 @@ fn none_empty(heads: &[u64], k: ClassHeap) -> bool
     requires { (head_cell k.row reserve < length heads.now) × (head_cell k.row empty_list < length heads.now) }
     ensures { (b p e : List ℕ) (u : ℕ) → result ≡ none_empty (table b p e heads.now u) k }
 {
-    if linked_list::front(heads, k.row, RESERVE) != 0 {
+    if linked_list::front(heads, k.row, SpanList::Reserve) != 0 {
         return false;
     }
-    linked_list::front(heads, k.row, EMPTY) == 0
+    linked_list::front(heads, k.row, SpanList::Empty) == 0
 }
 
 // With no partial span: the reserve, else the front of the empty list, else a new span within the limit.
@@ -43,7 +37,7 @@ fn supply(tables: &mut LentTables, limit: u64, k: ClassHeap)
     ensures lent { SameLent tables.old tables.new }
     ensures cells { cells tables.new ≡ supplied limit (cells tables.old) k }
 {
-    if linked_list::front(tables.heads(), k.row, PARTIAL) != 0 {
+    if linked_list::front(tables.heads(), k.row, SpanList::Partial) != 0 {
         return;
     }
     if !none_empty(tables.heads(), k) {
@@ -61,7 +55,7 @@ pub fn replenish(tables: &mut LentTables, limit: u64, k: ClassHeap)
     ensures lent { SameLent tables.old tables.new }
     ensures cells { cells tables.new ≡ replenished limit (cells tables.old) k }
 {
-    if linked_list::front(tables.heads(), k.row, PARTIAL) != 0 {
+    if linked_list::front(tables.heads(), k.row, SpanList::Partial) != 0 {
         return;
     }
     reclaiming::reclaim(tables, k);

@@ -4,3 +4,4 @@ pub mod CellLaws
 pub mod LentLaws
 pub mod MagazineCells
 pub mod StatedLaws
+pub mod PlaceLaws

@@ -3,3 +3,4 @@ pub mod Cells
 pub mod Fresh
 pub mod Stated
 pub mod Lent
+pub mod ListPlace

@@ -107,6 +107,15 @@ pub struct ClassHeap {
     pub base: u64,
 }
 
+// The lists of a class of a heap, and its reserve, which is a list of one.
+#[derive(Clone, Copy, Debug, PartialEq, Eq)]
+pub enum SpanList {
+    Partial = 0,
+    Full = 1,
+    Empty = 2,
+    Reserve = 3,
+}
+
 // How many cells a span has among the bitmap words and among the records, and a class of a heap among the heads.
 pub const BITMAP_CELLS: u64 = 130;
 

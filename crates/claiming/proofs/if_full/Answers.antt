@@ -1,7 +1,6 @@
 -- `claiming::if_full` meets its contract: a remove and a push, or nothing. Assumes nothing.
 use mathlib.Core.Path.{sym, ◌∙◌}
 use mathlib.Core.List.{[]}
-use native.Mathlib.Omega.{arith}
 use Rattle.placing.proofs.PlacingMade.{cells_here, removed_links}
 use Rattle.claiming.proofs.ClaimingLaws.{if_full_made, if_full_not}
 use Rattle.claiming.proofs.if_full.Goals as goal
@@ -12,10 +11,7 @@ is_full-requires c = cells_here c.requires.1 c.requires.2
 pub push-requires : goal.push-requires
 push-requires c =
     let p = c.requires in
-    record {
-      by_index = (p.0, removed_links _ _ _ _ _ (c.remove.ensures [] [] 0) p.1 p.2, p.2);
-      f_le_reserve = omega arith;
-    }
+    (p.0, removed_links _ _ _ _ _ (c.remove.ensures [] [] 0) p.1 p.2, p.2)
 
 pub returns-then-is_full : goal.returns-then-is_full
 returns-then-is_full c =

@@ -1,6 +1,5 @@
 -- `flushing::give_back` meets its contract: a slot released, and its two tests. Assumes nothing.
 use mathlib.Core.Path.{refl, sym, ◌∙◌}
-use native.Mathlib.Omega.{arith}
 use Rattle.placing.proofs.PlacingKept.{working_as, working_links}
 use Rattle.placing.proofs.PlacingMade.{cells_here}
 use Rattle.reclaiming.proofs.ReclaimingLaws.{working_cells}
@@ -21,10 +20,7 @@ pub refile-requires : goal.refile-requires
 refile-requires c =
     let t = c.args.tables.now in
     let p = c.requires in
-    record {
-      by_index = (_, working_links (working_as (c.dealloc_slot.ensures t.entries.now t.heads.now t.used.now) (dealloc_working p.1)), p.1.used);
-      f_le_reserve = omega arith;
-    }
+    (_, working_links (working_as (c.dealloc_slot.ensures t.entries.now t.heads.now t.used.now) (dealloc_working p.1)), p.1.used)
 
 pub returns-then-full-clause-cells : goal.returns-then-full-clause-cells
 returns-then-full-clause-cells c =
@@ -42,10 +38,7 @@ pub refile-requires-then-is_empty : goal.refile-requires-then-is_empty
 refile-requires-then-is_empty c =
     let t = c.args.tables.now in
     let p = c.requires in
-    record {
-      by_index = (_, working_links (working_as (c.dealloc_slot.ensures t.entries.now t.heads.now t.used.now) (dealloc_working p.1)), p.1.used);
-      f_le_reserve = omega arith;
-    }
+    (_, working_links (working_as (c.dealloc_slot.ensures t.entries.now t.heads.now t.used.now) (dealloc_working p.1)), p.1.used)
 
 pub returns-then-is_empty-clause-cells : goal.returns-then-is_empty-clause-cells
 returns-then-is_empty-clause-cells c =

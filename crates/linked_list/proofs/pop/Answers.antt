@@ -1,19 +1,17 @@
 -- `linked_list::pop` meets its contract: the front removed. Assumes nothing.
 use native.Mathlib.Omega.{arith}
+use Rattle.tables.proofs.PlaceLaws.{place_le}
 use Rattle.linked_list.proofs.ReachLaws.{head_here}
 use Rattle.linked_list.proofs.StoreLaws.{pop_made}
 use Rattle.linked_list.proofs.pop.Goals as goal
 
 pub front-s-requires : goal.front-s-requires
-front-s-requires c = let p = c.requires in head_here p.by_index.1 p.f_le_reserve
+front-s-requires c = head_here c.requires.by_index.1 (place_le c.args.list)
 
 pub remove-requires : goal.remove-requires
 remove-requires c =
     let p = c.requires in
-    record {
-      by_index = (p.by_index.0, p.by_index.1, omega (arith, c.front-s.ensures, p.by_index.1.fronts _ p.f_le_reserve));
-      f_le_reserve = p.f_le_reserve;
-    }
+    (p.by_index.0, p.by_index.1, omega (arith, c.front-s.ensures, p.by_index.1.fronts _ (place_le c.args.list)))
 
 pub returns : goal.returns
 returns c =

@@ -1,15 +1,16 @@
 -- `linked_list::push` meets its contract: its stores are those of the definition. Assumes nothing.
 use native.Mathlib.Omega.{arith}
+use Rattle.tables.proofs.PlaceLaws.{place_le}
 use Rattle.linked_list.proofs.ReachLaws.{head_here, field_here, linked_here, few_spans_lem}
 use Rattle.linked_list.proofs.StoreLaws.{push_made}
 use Rattle.linked_list.proofs.push.Goals as goal
 
 pub front-old-requires : goal.front-old-requires
-front-old-requires c = let p = c.requires in head_here p.by_index.1 p.f_le_reserve
+front-old-requires c = let p = c.requires in head_here p.1 (place_le c.args.list)
 
 pub put_links-requires : goal.put_links-requires
 put_links-requires c =
-    let p = c.requires.by_index in
+    let p = c.requires in
     record {
       previous_field_in_bounds = omega (arith, field_here p.1 {f = 3} p.2 (omega arith));
       next_field_in_bounds = omega (arith, field_here p.1 {f = 4} p.2 (omega arith));
@@ -17,23 +18,22 @@ put_links-requires c =
 
 pub overflow_add-s : goal.overflow_add-s
 overflow_add-s c =
-    let p = c.requires.by_index in
+    let p = c.requires in
     omega (arith, few_spans_lem p.1, p.2)
 
 pub put_linked-requires : goal.put_linked-requires
 put_linked-requires c =
     let p = c.requires in
-    λ s h. omega (arith, linked_here p.by_index.1 {s = s} {f = 3} (p.by_index.1.fronts _ p.f_le_reserve) (omega (arith, c.front-old.ensures)) (omega arith))
+    λ s h. omega (arith, linked_here p.1 {s = s} {f = 3} (p.1.fronts _ (place_le c.args.list)) (omega (arith, c.front-old.ensures)) (omega arith))
 
 pub overflow_add-s-2 : goal.overflow_add-s-2
 overflow_add-s-2 c =
-    let p = c.requires.by_index in
+    let p = c.requires in
     omega (arith, few_spans_lem p.1, p.2)
 
-pub put_head-requires : goal.put_head-requires
-put_head-requires c =
-    let p = c.requires in
-    omega (arith, head_here p.by_index.1 p.f_le_reserve)
+pub set_front-requires : goal.set_front-requires
+set_front-requires c =
+    omega (arith, head_here c.requires.1 (place_le c.args.list))
 
 pub returns : goal.returns
 returns c b e u =
@@ -41,4 +41,4 @@ returns c b e u =
     c.front-old.ensures
     c.put_links.ensures
     c.put_linked.ensures
-    c.put_head.ensures
+    c.set_front.ensures

@@ -7,8 +7,8 @@ use Rattle.linked_list.proofs.LinksKept.{put_links}
 use Rattle.placing.proofs.PlacingMade.{heads_as, release_made}
 use Rattle.placing.proofs.release_empty.Goals as goal
 
-pub head-old-requires : goal.head-old-requires
-head-old-requires c = head_here c.requires.1 (omega arith)
+pub front-old-requires : goal.front-old-requires
+front-old-requires c = head_here c.requires.1 (omega arith)
 
 pub overflow_add-s : goal.overflow_add-s
 overflow_add-s c = let p = c.requires in omega (arith, few_spans_lem p.1, p.2)
@@ -21,8 +21,8 @@ demote-requires c =
     let p = c.requires in (
       p.0,
       heads_as c.put_head.ensures (put_links (tables [] c.args.spans.now [] c.args.heads.now 0) c.args.k 3 p.1 _ (omega (arith, p.2))),
-      omega (arith, c.head-old.ensures, p.1.fronts 3 (omega arith)),
+      omega (arith, c.front-old.ensures, p.1.fronts 3 (omega arith)),
     )
 
 pub returns : goal.returns
-returns c = λ b e u. release_made b _ e _ _ u _ _ _ _ c.head-old.ensures c.put_head.ensures (c.demote.ensures b e u)
+returns c = λ b e u. release_made b _ e _ _ u _ _ _ _ c.front-old.ensures c.put_head.ensures (c.demote.ensures b e u)

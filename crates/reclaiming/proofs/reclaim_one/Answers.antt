@@ -1,6 +1,5 @@
 -- `reclaiming::reclaim_one` meets its contract: a fold and a refile, or nothing. Assumes nothing.
 use mathlib.Core.Path.{sym, ◌∙◌}
-use native.Mathlib.Omega.{arith}
 use Rattle.placing.proofs.PlacingKept.{working_as, working_links}
 use Rattle.reclaiming.proofs.ReclaimingLaws.{working_cells, working_foldable, pending_working, reclaim_one_made, reclaim_one_kept}
 use Rattle.reclaiming.proofs.reclaim_one.Goals as goal
@@ -19,10 +18,7 @@ pub refile-requires : goal.refile-requires
 refile-requires c =
     let t = c.args.tables.now in
     let p = c.requires in
-    record {
-      by_index = (_, working_links (working_as (c.reclaim_pending.ensures t.entries.now t.heads.now t.used.now) (pending_working p.1 p.2)), p.2);
-      f_le_reserve = omega arith;
-    }
+    (_, working_links (working_as (c.reclaim_pending.ensures t.entries.now t.heads.now t.used.now) (pending_working p.1 p.2)), p.2)
 
 pub returns-then-has_pending-clause-cells : goal.returns-then-has_pending-clause-cells
 returns-then-has_pending-clause-cells c =

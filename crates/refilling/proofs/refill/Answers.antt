@@ -4,7 +4,7 @@ use native.Mathlib.Omega.{arith}
 use Rattle.linked_list.proofs.ReachLaws.{head_here}
 use Rattle.tables.proofs.LentLaws.{lent_same, lent_on}
 use Rattle.placing.proofs.PlacingKept.{working_links, working_room}
-use Rattle.refilling.proofs.RefillingLaws.{refill_full, refill_start, capacity_few, replenished_working, refill_ends, refill_fronted, refill_again, refill_done}
+use Rattle.refilling.proofs.RefillingLaws.{refill_full, refill_start, replenished_working, refill_ends, refill_fronted, refill_again, refill_done}
 use Rattle.refilling.proofs.refill.Goals as goal
 
 pub loop-i-init : goal.loop-i-init
@@ -56,8 +56,7 @@ pub claim_front-requires : goal.claim_front-requires
 claim_front-requires c =
     let r = c.loop-i.invariant.refill in
     let count = rw c.heads.ensures at c.count.ensures in
-    let front = rw c.heads-in-loop-i.ensures at c.front.ensures in
-    (
+    let front = rw c.heads-in-loop-i.ensures at c.front.ensures in (
       _,
       refill_fronted _ _ _ _ _ _ _ r (omega arith) (omega (arith, c.if-count-k.false, count)) _ c.replenish.ensures.cells
           (λ z. c.if-front-eq0.false (front ∙ z)),
@@ -71,7 +70,7 @@ loop-i-preserved c =
     record {
       lent = lent_on (lent_on l.lent c.replenish.ensures.lent) c.claim_front.ensures.lent;
       refill = refill_again _ _ _ _ _ _ _ l.refill (omega arith) (omega (arith, c.if-count-k.false, count)) _
-      c.replenish.ensures.cells (λ z. c.if-front-eq0.false (front ∙ z)) _ _ refl c.claim_front.ensures.cells _ (omega arith);
+          c.replenish.ensures.cells (λ z. c.if-front-eq0.false (front ∙ z)) _ _ refl c.claim_front.ensures.cells _ (omega arith);
     }
 
 pub returns-clause-lent : goal.returns-clause-lent

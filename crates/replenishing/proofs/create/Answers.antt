@@ -19,10 +19,7 @@ push-requires c =
     let p = c.requires in
     let q = c.new_span.ensures t.entries.now t.heads.now in
     let d = ap (λ (t : Tables). t.used) q ∙ new_used _ _ in
-    record {
-      by_index = (_, working_links (working_as q (new_working p.1 p.2)), omega (arith, d));
-      f_le_reserve = omega arith;
-    }
+    (_, working_links (working_as q (new_working p.1 p.2)), omega (arith, d))
 
 pub returns-clause-cells : goal.returns-clause-cells
 returns-clause-cells c =
