@@ -1,28 +1,21 @@
--- `laggersten::fresh` meets its contract: the maker over 01's list and limit. Assumes nothing.
-use mathlib.Core.Path.{ap, ◌∙◌}
-use mathlib.Core.List.{List}
-use Prim.Native.Nat.{ℕ}
-use native.Mathlib.Omega.{arith}
-use Rattle.size_classes.proofs.SlotSizeLaws.{slot_sizes_admissible}
-use Rattle.tables.specs.Shape.{shape, most_spans}
-use Rattle.tables.specs.Cells.{tables}
-use Rattle.tables.specs.Fresh.{fresh}
+use Rattle.std.proofs.Common.{rules, ◌≡◌, ℕ, ◌+◌, ◌-◌, ◌*◌, ◌<◌, ◌≤◌, length, ◌/◌, ◌%◌, Bool, true, false, nat_eq, nat_lt, List, [], ◌∷◌, ◌++◌, slice_index_or, slice_set, bit_and, bit_or, Fits, w8, w32, w64, Bor, MutBor}
+use Rattle.refusals.specs.Numbers.{number_of}
+use Rattle.tables.specs.Shape.{base_shape}
+use Rattle.tables.specs.Lent.{cells, SameLent}
+use Rattle.tables.specs.Fresh.{numbered}
+use Rattle.tables.specs.Fresh.{fresh as freshly}
+use Rattle.calls.specs.Outcome.{ended}
+use Rattle.calls.specs.Answered.{answer_of}
+use Rattle.calls.specs.Calls.{allocate as allocated}
+use Rattle.calls.specs.Calls.{free as released}
+use Rattle.calls.specs.Batch.{batched}
+use Rattle.calls.specs.Batch.{batch as performed}
 use Rattle.laggersten.proofs.fresh.Goals as goal
 
-pub fresh-requires : goal.fresh-requires
-fresh-requires c =
-    record {
-      admissible = rw c.slot_sizes-sizes.ensures slot_sizes_admissible;
-      most_bound = omega arith;
-    }
+-- src/lib.rt:28:17
+pub new-sizes-requires : goal.new-sizes-requires
+new-sizes-requires c = ?
 
-pub returns : goal.returns
-unfolding most_spans
-returns c =
-    let a = c.args in
-    c.fresh.ensures
-    ∙ ap
-    (λ (l : List ℕ).
-    fresh (shape l most_spans a.heaps a.spans)
-    (tables a.bits.now a.records.now a.entries.now a.heads.now a.used.now))
-    c.slot_sizes-sizes.ensures
+-- src/lib.rt:23:1
+pub returns-clause-numbered : goal.returns-clause-numbered
+returns-clause-numbered c = ?
