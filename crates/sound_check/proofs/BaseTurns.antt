@@ -5,10 +5,13 @@ use native.Mathlib.Nat.{mod-lt, div-add-mod'}
 use native.Mathlib.Decide.{dec_lt}
 use native.Mathlib.Omega.{arith}
 use lib.Arith.{digits_div, digits_mod}
-use Rattle.size_classes.specs.SlotSizes.{slot_size}
+use Rattle.size_classes.specs.SlotSizes.{Admissible, slot_size}
 use Rattle.magazine_layout.specs.Layout.{capacity_for, magazine_offset, entries_per_heap}
 use Rattle.magazine_layout.proofs.LayoutLaws.{offset_first, offset_next}
-use Rattle.tables.specs.Shape.{Shape, classes, row_of, base_of, class_heap}
+use Rattle.tables.specs.declared.ClassHeap.{ClassHeap}
+use Rattle.tables.specs.Shape.{Shape, shape, classes, row_of, base_of, class_heap}
+use Rattle.sound_check.specs.Joined.{class_at_row}
+use Rattle.sound_check.proofs.RowTurns.{row_heap}
 
 -- the base of row r
 abbrev pub base_at : Shape → ℕ → ℕ
@@ -58,3 +61,27 @@ module _ (g : Shape) where
 pub capacity_at : (g : Shape) (h c : ℕ) → (class_heap g h c).capacity ≡ capacity_for (slot_size g.sizes c)
 unfolding class_heap
 capacity_at g h c = omega arith
+
+-- what a loop over all rows knows of the class of a heap that it is at
+pub record Row (g : Shape) (r : ℕ) (k : ClassHeap) : Type 0 where
+  pub sizes : Admissible g.sizes
+  pub here : k ≡ class_at_row g r
+  pub heap : r / classes g < g.heaps
+  pub class : r % classes g < classes g
+
+pub row_here :
+    (g : Shape) {n r base : ℕ} {k : ClassHeap} → n ≡ classes g → Admissible g.sizes → base ≡ base_at g r → r < g.heaps * n →
+    ((most heaps m : ℕ) → r ≡ row_of (shape g.sizes most heaps m) (r / n) (r % n) → base ≡ base_of (shape g.sizes most heaps m) (r / n) (r % n) →
+    k ≡ class_heap (shape g.sizes most heaps m) (r / n) (r % n)) →
+    Row g r k
+row_here g {r = r} e a b l f =
+    record {
+      sizes = a;
+      here = (rw e at f) g.most g.heaps g.spans (row_at g r) b;
+      heap = row_heap a.some (rw e at l);
+      class = mod-lt r a.some;
+    }
+
+-- The capacity there.
+pub row_capacity : {g : Shape} {r : ℕ} {k : ClassHeap} → Row g r k → k.capacity ≡ capacity_for (slot_size g.sizes (r % classes g))
+row_capacity {g} {r} w = ap (λ (j : ClassHeap). j.capacity) w.here ∙ capacity_at g (r / classes g) (r % classes g)

@@ -1,6 +1,5 @@
 -- The turns of the check of all rows: the cells of a row are there, one row more is right, and a fault of right rows is none. Assumes nothing.
 use mathlib.Core.Path.{◌≡◌, refl, sym, ap, subst, ◌∙◌}
-use mathlib.Core.List.{List}
 use Prim.Native.Nat.{ℕ, ◌+◌, ◌*◌, ◌/◌, ◌<◌, ◌≤◌}
 use native.Mathlib.Nat.{div-lt_iff_lt-mul}
 use native.Mathlib.Omega.{arith}
@@ -8,7 +7,7 @@ use lib.ListN.{length}
 use borrow.Author.Count.{below_more, below_none}
 use Rattle.size_classes.specs.SlotSizes.{slot_size}
 use Rattle.size_classes.proofs.SlotTheorems.{slots_most}
-use Rattle.tables.specs.Shape.{Shape, shape, classes, class_heap}
+use Rattle.tables.specs.Shape.{Shape, classes, class_heap}
 use Rattle.tables.specs.Cells.{Tables, head_cell}
 use Rattle.tables.proofs.CellLaws.{head_in, list_in, row_in}
 use Rattle.tables.proofs.MagazineCells.{base_within}
@@ -17,25 +16,22 @@ use Rattle.sound_lists.specs.Walked.{UsedFields, ClassLists, spans_in, ClassCell
 use Rattle.sound_check.specs.Joined.{class_at_row, joined, RowsSound, RowCells, Passed}
 use Rattle.sound_check.proofs.RowsJoined.{joined_more, joined_few}
 
-module _ {sizes bits spans entries heads : List ℕ} {heaps used : ℕ} (o : RowCells sizes bits spans entries heads heaps used) where
+module _ {g : Shape} {t : Tables} (o : RowCells g t) where
   -- The records of the used spans are there.
-  pub fields_used : UsedFields spans used
+  pub fields_used : UsedFields t.spans t.used
   fields_used = record { there = o.cells.fields }
 
-  module _ (most n : ℕ) {h c : ℕ} (hh : h < heaps) (hc : c < length sizes) where
-    abbrev g : Shape
-    g = shape sizes most heaps n
-
+  module _ {h c : ℕ} (hh : h < g.heaps) (hc : c < classes g) where
     -- The heads of a class of a heap are there, and so is its magazine.
-    pub heads_there : ClassCells heads (class_heap g h c)
+    pub heads_there : ClassCells t.heads (class_heap g h c)
     unfolding class_heap
     heads_there =
         record {
           rows = λ f hf. subst (λ (z : ℕ). head_cell (class_heap g h c).row f < z) (sym o.heads_long) (head_in (row_in g hh hc) (list_in hf));
-          slots = slots_most (slot_size sizes c);
+          slots = slots_most (slot_size g.sizes c);
         }
 
-    pub entries_there : (class_heap g h c).base + (class_heap g h c).capacity ≤ length entries
+    pub entries_there : (class_heap g h c).base + (class_heap g h c).capacity ≤ length t.entries
     unfolding class_heap
     entries_there = subst (λ (z : ℕ). (class_heap g h c).base + (class_heap g h c).capacity ≤ z) (sym o.entries_long) (base_within g hh hc)
 

@@ -33,11 +33,11 @@ pub record RowsSound (g : Shape) (t : Tables) : Type 0 where
   pub counted : length (joined g t (g.heaps * classes g)) ≡ t.used
 
 -- the cells of all rows and of all used spans are there
-pub record RowCells (sizes bits spans entries heads : List ℕ) (heaps used : ℕ) : Type 0 where
-  pub cells : UsedCells bits spans used
-  pub few : heaps ≤ most_heaps
-  pub entries_long : length entries ≡ heaps * entries_per_heap sizes
-  pub heads_long : length heads ≡ heaps * length sizes * head_cells
+pub record RowCells (g : Shape) (t : Tables) : Type 0 where
+  pub cells : UsedCells t.bits t.spans t.used
+  pub few : g.heaps ≤ most_heaps
+  pub entries_long : length t.entries ≡ g.heaps * entries_per_heap g.sizes
+  pub heads_long : length t.heads ≡ g.heaps * classes g * head_cells
 
 -- the first r rows are right, and `total` spans were met in them
 pub record Passed (g : Shape) (t : Tables) (r total : ℕ) : Type 0 where

@@ -1,14 +1,14 @@
 // The check of the lists: each is walked once from its head, and the spans met are counted.
 #![tactic(auto)]
 
-ghost use Rattle.std.specs.Prelude.{List, ℕ, ◌<◌, length};
+ghost use Rattle.std.specs.Prelude.{◌<◌, length};
 ghost use Rattle.laws.specs.Choice.{Says};
-ghost use Rattle.tables.specs.Cells.{tables as table, head_cell};
+ghost use Rattle.tables.specs.Cells.{head_cell};
 ghost use Rattle.linked_list.specs.Lists.{list_of};
 ghost use Rattle.sound.specs.Sound.{ListSound};
 ghost use Rattle.sound_lists.specs.Walked.{UsedFields, Fits, Between, WalkAnswer, ClassLists, spans_in, ClassCells};
 
-use tables::ClassHeap;
+use tables::{ClassHeap, TablesView};
 
 const CLASS: u64 = 0;
 
@@ -29,11 +29,12 @@ const EMPTY: u64 = 2;
 const RESERVE: u64 = 3;
 
 // Whether span s is one of a list of that class and heap: it links back to p, and its count is from low on and below high.
-fn link_fits(spans: &[u64], k: ClassHeap, s: u64, p: u64, low: u64, high: u64, used: u64) -> bool
-    requires { UsedFields spans.now used }
-    ensures { (b e h : List ℕ) → Says result (Fits (table b spans.now e h used) k low high p s) }
+fn link_fits(view: &TablesView, k: ClassHeap, s: u64, p: u64, low: u64, high: u64) -> bool
+    requires { UsedFields view.now.spans view.now.used }
+    ensures { Says result (Fits view.now k low high p s) }
 {
-    if s >= used {
+    let spans = view.spans;
+    if s >= view.used {
         return false;
     }
     tables::field(spans, s, PREVIOUS) == p
@@ -43,27 +44,20 @@ fn link_fits(spans: &[u64], k: ClassHeap, s: u64, p: u64, low: u64, high: u64, u
 }
 
 // How many spans list f holds, each with a count from low on and below high; none where the list is not right.
-fn list_met(
-    spans: &[u64],
-    heads: &[u64],
-    k: ClassHeap,
-    f: u64,
-    low: u64,
-    high: u64,
-    used: u64,
-) -> Option<u64>
-    requires used_fields { UsedFields spans.now used }
-    requires f_in_bounds { head_cell k.row f < length heads.now }
-    ensures { (b e : List ℕ) → WalkAnswer (ListSound (table b spans.now e heads.now used) k f (Between low high)) (length (list_of (table b spans.now e heads.now used) k f)) result }
+fn list_met(view: &TablesView, k: ClassHeap, f: u64, low: u64, high: u64) -> Option<u64>
+    requires used_fields { UsedFields view.now.spans view.now.used }
+    requires f_in_bounds { head_cell k.row f < length view.now.heads }
+    ensures { WalkAnswer (ListSound view.now k f (Between low high)) (length (list_of view.now k f)) result }
 {
-    let mut x = tables::head(heads, k.row, f);
+    let spans = view.spans;
+    let mut x = tables::head(view.heads, k.row, f);
     let mut p: u64 = 0;
     let mut met: u64 = 0;
     while x != 0 {
-        if met == used {
+        if met == view.used {
             return None;
         }
-        if !link_fits(spans, k, x - 1, p, low, high, used) {
+        if !link_fits(view, k, x - 1, p, low, high) {
             return None;
         }
         p = x;
@@ -74,15 +68,16 @@ fn list_met(
 }
 
 // How many spans the lists and the reserve of a class of a heap hold; none where they are not right.
-pub fn class_met(spans: &[u64], heads: &[u64], k: ClassHeap, used: u64) -> Option<u64>
-    requires used_fields { UsedFields spans.now used }
-    requires class_cells { ClassCells heads.now k }
-    ensures { (b e : List ℕ) → WalkAnswer (ClassLists (table b spans.now e heads.now used) k) (spans_in (table b spans.now e heads.now used) k) result }
+pub fn class_met(view: &TablesView, k: ClassHeap) -> Option<u64>
+    requires used_fields { UsedFields view.now.spans view.now.used }
+    requires class_cells { ClassCells view.now.heads k }
+    ensures { WalkAnswer (ClassLists view.now k) (spans_in view.now k) result }
 {
-    let partial = list_met(spans, heads, k, PARTIAL, 1, k.slots, used)?;
-    let full = list_met(spans, heads, k, FULL, k.slots, k.slots + 1, used)?;
-    let empty = list_met(spans, heads, k, EMPTY, 0, 1, used)?;
-    let kept = list_met(spans, heads, k, RESERVE, 0, 1, used)?;
+    let heads = view.heads;
+    let partial = list_met(view, k, PARTIAL, 1, k.slots)?;
+    let full = list_met(view, k, FULL, k.slots, k.slots + 1)?;
+    let empty = list_met(view, k, EMPTY, 0, 1)?;
+    let kept = list_met(view, k, RESERVE, 0, 1)?;
     if kept > 1 {
         return None;
     }

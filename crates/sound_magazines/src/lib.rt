@@ -1,14 +1,13 @@
 // The check of one magazine: its count, each entry below the count, and that no entry stands there twice.
 #![tactic(auto)]
 
-ghost use Rattle.std.specs.Prelude.{List, ℕ, ◌+◌, ◌<◌, ◌≤◌, length};
+ghost use Rattle.std.specs.Prelude.{◌+◌, ◌≤◌, length};
 ghost use Rattle.laws.specs.Choice.{Says};
-ghost use Rattle.tables.specs.Cells.{tables as table};
 ghost use Rattle.magazine.specs.Room.{Counted};
 ghost use Rattle.sound.specs.Sound.{EntrySound, MagazineSound};
 ghost use Rattle.sound_spans.specs.WordSound.{UsedCells};
 
-use tables::ClassHeap;
+use tables::{ClassHeap, TablesView};
 
 const CLASS: u64 = 0;
 
@@ -19,12 +18,14 @@ const LOCAL_WORDS: u64 = 1;
 const REMOTE_WORDS: u64 = 66;
 
 // Whether an entry is a slot of a used span of that class and heap, in range, occupied and not pending.
-fn entry_sound(bits: &[u64], spans: &[u64], k: ClassHeap, used: u64, e: u64) -> bool
-    requires { UsedCells bits.now spans.now used }
-    ensures { (n h : List ℕ) → Says result (EntrySound (table bits.now spans.now n h used) k e) }
+fn entry_sound(view: &TablesView, k: ClassHeap, e: u64) -> bool
+    requires { UsedCells view.now.bits view.now.spans view.now.used }
+    ensures { Says result (EntrySound view.now k e) }
 {
+    let bits = view.bits;
+    let spans = view.spans;
     let s = tables::entry_span(e);
-    if s >= used {
+    if s >= view.used {
         return false;
     }
     let q = tables::entry_slot(e);
@@ -36,27 +37,21 @@ fn entry_sound(bits: &[u64], spans: &[u64], k: ClassHeap, used: u64, e: u64) -> 
 }
 
 // Whether the magazine is right, left at the first entry that is not.
-pub fn magazine_sound(
-    bits: &[u64],
-    spans: &[u64],
-    entries: &[u64],
-    heads: &[u64],
-    k: ClassHeap,
-    used: u64,
-) -> bool
-    requires used_cells { UsedCells bits.now spans.now used }
-    requires counted { Counted heads.now k }
-    requires capacity_in_bounds { k.base + k.capacity ≤ length entries.now }
-    ensures { Says result (MagazineSound (table bits.now spans.now entries.now heads.now used) k) }
+pub fn magazine_sound(view: &TablesView, k: ClassHeap) -> bool
+    requires used_cells { UsedCells view.now.bits view.now.spans view.now.used }
+    requires counted { Counted view.now.heads k }
+    requires capacity_in_bounds { k.base + k.capacity ≤ length view.now.entries }
+    ensures { Says result (MagazineSound view.now k) }
 {
-    let n = magazine::count(heads, k);
+    let entries = view.entries;
+    let n = magazine::count(view.heads, k);
     if n > k.capacity {
         return false;
     }
     let mut ok = true;
     'entries: for j in 0..n {
         let e = tables::entry(entries, k.base, j);
-        if !entry_sound(bits, spans, k, used, e) {
+        if !entry_sound(view, k, e) {
             ok = false;
             break 'entries;
         }

@@ -3,11 +3,12 @@
 
 ghost use Rattle.std.specs.Prelude.{◌≡◌, List, ℕ, ◌<◌};
 ghost use Rattle.laws.specs.Choice.{Says};
-ghost use Rattle.size_classes.specs.SlotSizes.{Admissible};
-ghost use Rattle.tables.specs.Shape.{shape};
 ghost use Rattle.tables.specs.Cells.{tables as table};
+ghost use Rattle.span.specs.Room.{WordCells, FieldCells};
 ghost use Rattle.sound.specs.Sound.{SpanFilled};
 ghost use Rattle.sound_spans.specs.WordSound.{pad_of, WordSound, UsedCells};
+
+use tables::{Shape, TablesView};
 
 const CLASS: u64 = 0;
 
@@ -47,40 +48,44 @@ fn word_sound(slots: u64, summary: u64, pending: u64, i: u64, x: u64, p: u64) ->
         && p & x == p
 }
 
-// Whether the cells of every used span are right, left at the first word or cell that is not.
-pub fn spans_filled(sizes: &[u64], bits: &[u64], spans: &[u64], heaps: u64, used: u64) -> bool
-    requires admissible { Admissible sizes.now }
-    requires used_cells { UsedCells bits.now spans.now used }
-    ensures { (e h : List ℕ) (most n : ℕ) → Says result ((s : ℕ) → s < used → SpanFilled (shape sizes.now most heaps n) (table bits.now spans.now e h used) s) }
+// Whether the cells of span s are right, left at the first word or cell that is not.
+fn span_filled(shape: &Shape, bits: &[u64], spans: &[u64], s: u64) -> bool
+    requires words { WordCells bits.now s }
+    requires fields { FieldCells spans.now s }
+    ensures { (e h : List ℕ) (used : ℕ) → Says result (SpanFilled shape.now (table bits.now spans.now e h used) s) }
 {
-    let mut ok = true;
-    'spans: for s in 0..used {
-        let class = tables::field(spans, s, CLASS);
-        if class >= sizes.len() as u64 {
-            ok = false;
-            break 'spans;
+    let sizes = shape.sizes;
+    let class = tables::field(spans, s, CLASS);
+    if class >= sizes.classes() {
+        return false;
+    }
+    if tables::field(spans, s, OWNER) >= shape.heaps {
+        return false;
+    }
+    let slots = size_classes::slots_per_span(sizes.slot(class));
+    let summary = tables::word(bits, s, LOCAL_SUMMARY);
+    let pending = tables::word(bits, s, REMOTE_SUMMARY);
+    let mut sum: u64 = 0;
+    for i in 0..64 {
+        let x = tables::word(bits, s, LOCAL_WORDS + i);
+        let p = tables::word(bits, s, REMOTE_WORDS + i);
+        if !word_sound(slots, summary, pending, i, x, p) {
+            return false;
         }
-        if tables::field(spans, s, OWNER) >= heaps {
-            ok = false;
-            break 'spans;
-        }
-        let slots = size_classes::slots_per_span(sizes[class as usize]);
-        let summary = tables::word(bits, s, LOCAL_SUMMARY);
-        let pending = tables::word(bits, s, REMOTE_SUMMARY);
-        let mut sum: u64 = 0;
-        for i in 0..64 {
-            let x = tables::word(bits, s, LOCAL_WORDS + i);
-            let p = tables::word(bits, s, REMOTE_WORDS + i);
-            if !word_sound(slots, summary, pending, i, x, p) {
-                ok = false;
-                break 'spans;
-            }
-            sum += bits::count(x);
-        }
-        if sum - (MOST_SLOTS - slots) != tables::field(spans, s, OCCUPIED) {
-            ok = false;
-            break 'spans;
+        sum += bits::count(x);
+    }
+    sum - (MOST_SLOTS - slots) == tables::field(spans, s, OCCUPIED)
+}
+
+// Whether the cells of every used span are right, left at the first span whose are not.
+pub fn spans_filled(shape: &Shape, view: &TablesView) -> bool
+    requires { UsedCells view.now.bits view.now.spans view.now.used }
+    ensures { Says result ((s : ℕ) → s < view.now.used → SpanFilled shape.now view.now s) }
+{
+    for s in 0..view.used {
+        if !span_filled(shape, view.bits, view.spans, s) {
+            return false;
         }
     }
-    ok
+    true
 }

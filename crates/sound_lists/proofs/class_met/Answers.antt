@@ -1,13 +1,13 @@
 -- `sound_lists::class_met` meets its contract: four walks, and the reserve's span apart from the empty list. Assumes nothing.
 use borrow.Author.Tests.{eq-eqb}
-use mathlib.Core.Path.{sym, ap, ◌∙◌}
+use mathlib.Core.Path.{◌≡◌, sym, ap, ◌∙◌}
 use mathlib.Core.Bool.{not, true≢false}
-use mathlib.Core.List.{List, []}
+use mathlib.Core.List.{List}
 use Prim.Native.Nat.{ℕ, ◌+◌, ◌^◌, ◌<◌}
 use native.Mathlib.Omega.{arith}
 use Rattle.size_classes.specs.Slots.{most_slots}
 use Rattle.tables.specs.declared.ClassHeap.{ClassHeap}
-use Rattle.tables.specs.Cells.{tables, partial_list, full_list, empty_list}
+use Rattle.tables.specs.Cells.{Tables, head_at, partial_list, full_list, empty_list, reserve}
 use Rattle.sound_lists.specs.Walked.{ClassCells}
 use Rattle.sound_lists.proofs.WalkLaws.{used_small, list_few}
 use Rattle.sound_lists.proofs.ClassTests.{class_right, full_fault, empty_fault, kept_fault, more_fault}
@@ -23,37 +23,31 @@ pub overflow_add-k : goal.overflow_add-k
 overflow_add-k c = omega (arith, slots_small c.requires.class_cells)
 
 pub returns-in_err-full : goal.returns-in_err-full
-returns-in_err-full c b e =
-    rw c.from_residual-in_err-full.ensures
-    (full_fault (tables b c.args.spans.now e c.args.heads.now c.args.used) c.args.k (c.in_err-full.ensures b e))
+returns-in_err-full c = rw c.from_residual-in_err-full.ensures (full_fault c.args.view.now c.args.k c.in_err-full.ensures)
 
 pub returns-in_err-empty : goal.returns-in_err-empty
-returns-in_err-empty c b e =
-    rw c.from_residual-in_err-empty.ensures
-    (empty_fault (tables b c.args.spans.now e c.args.heads.now c.args.used) c.args.k (c.in_err-empty.ensures b e))
+returns-in_err-empty c = rw c.from_residual-in_err-empty.ensures (empty_fault c.args.view.now c.args.k c.in_err-empty.ensures)
 
 pub returns-in_err-kept : goal.returns-in_err-kept
-returns-in_err-kept c b e =
-    rw c.from_residual-in_err-kept.ensures
-    (kept_fault (tables b c.args.spans.now e c.args.heads.now c.args.used) c.args.k (c.in_err-kept.ensures b e))
+returns-in_err-kept c = rw c.from_residual-in_err-kept.ensures (kept_fault c.args.view.now c.args.k c.in_err-kept.ensures)
 
 pub returns-then-kept-gt1 : goal.returns-then-kept-gt1
-returns-then-kept-gt1 c b e =
-    more_fault (tables b c.args.spans.now e c.args.heads.now c.args.used) c.args.k (c.in_ok-kept.ensures b e).1 c.if-kept-gt1.true
+returns-then-kept-gt1 c = more_fault c.args.view.now c.args.k c.in_ok-kept.ensures.1 c.if-kept-gt1.true
 
 -- No list has more spans than are used, so the sum of all fits.
 all_fit : (c : Else-not-apart) → c.in_ok-partial.partial + c.in_ok-full.full + c.in_ok-empty.empty + c.in_ok-kept.kept < 2 ^ 64
 all_fit c =
     let a = c.args in
-    let t = tables [] a.spans.now [] a.heads.now a.used in
+    let t = a.view.now in
     omega (
       arith,
-      used_small c.requires.used_fields,
-      (c.in_ok-partial.ensures [] []).1,
+      used_small (rw (← c.view.view_is) at c.requires.used_fields),
+      ap (λ (t : Tables). t.used) c.view.view_is,
+      c.in_ok-partial.ensures.1,
       list_few t a.k partial_list,
-      (c.in_ok-full.ensures [] []).1,
+      c.in_ok-full.ensures.1,
       list_few t a.k full_list,
-      (c.in_ok-empty.ensures [] []).1,
+      c.in_ok-empty.ensures.1,
       list_few t a.k empty_list,
     )
 
@@ -67,14 +61,15 @@ pub overflow_add-result-3 : goal.overflow_add-result-3
 overflow_add-result-3 c = omega (arith, all_fit c)
 
 pub returns : goal.returns
-returns c b e =
+returns c =
     let a = c.args in
-    let t = tables b a.spans.now e a.heads.now a.used in
-    class_right t a.k (c.in_ok-partial.ensures b e) (c.in_ok-full.ensures b e) (c.in_ok-empty.ensures b e) (c.in_ok-kept.ensures b e) c.if-kept-gt1.false
+    let front : c.head-first.result ≡ head_at a.view.now a.k reserve = rw (← c.view.view_is) c.head-first.ensures in
+    class_right a.view.now a.k c.in_ok-partial.ensures c.in_ok-full.ensures c.in_ok-empty.ensures c.in_ok-kept.ensures c.if-kept-gt1.false
     (elim c.if-first-eq0.branch [
-      | then-first-eq0 w ↦ λ z. sym c.head-first.ensures ∙ w.if-first-eq0.true
+      | then-first-eq0 w ↦ λ z. sym front ∙ w.if-first-eq0.true
       | else-first-eq0 w ↦ λ z.
           absurd
           (true≢false
-          (sym c.if-not-apart.false ∙ w.apart-is ∙ ap not (eq-eqb w.head.result c.head-first.result (w.head.ensures ∙ z ∙ sym c.head-first.ensures))))
+          (sym c.if-not-apart.false ∙ w.apart-is
+          ∙ ap not (eq-eqb w.head.result c.head-first.result ((rw (← c.view.view_is) w.head.ensures) ∙ z ∙ sym front))))
     ])

@@ -3,7 +3,7 @@ use mathlib.Core.Path.{◌≡◌}
 use mathlib.Core.Bool.{Bool, true}
 use Prim.Native.Nat.{ℕ, ◌<◌}
 use Rattle.tables.specs.declared.ClassHeap.{ClassHeap}
-use Rattle.tables.specs.Cells.{Tables, tables, entry_at}
+use Rattle.tables.specs.Cells.{Tables, entry_at}
 use Rattle.sound.specs.Sound.{EntrySound}
 use Rattle.sound_magazines.proofs.magazine_sound.Given as goal
 
@@ -18,7 +18,7 @@ pub record Beside (t : Tables) (k : ClassHeap) (e i : ℕ) (ok : Bool) : Type 0 
   pub others : (m : ℕ) → m < i → entry_at t k m ≡ e → ⊥
 
 abbrev pub invariant-loop-i : goal.invariant-loop-i
-invariant-loop-i l = Beside (tables l.bits l.spans l.entries l.heads l.used) l.k l.e l.i l.ok
+invariant-loop-i l = Beside l.view l.k l.e l.i l.ok
 
 abbrev pub invariant-entries : goal.invariant-entries
-invariant-entries l = Passed (tables l.bits l.spans l.entries l.heads l.used) l.k l.j l.ok
+invariant-entries l = Passed l.view l.k l.j l.ok

@@ -1,108 +1,29 @@
--- `sound_spans::spans_filled` meets its contract: the spans passed are right, and so are the words passed of the span at hand. Assumes nothing.
+-- `sound_spans::spans_filled` meets its contract: the spans passed are right. Assumes nothing.
 use borrow.Author.Count.{below_more}
-use mathlib.Core.Path.{◌≡◌, sym, subst}
-use mathlib.Core.List.{List, []}
-use Prim.Native.Nat.{ℕ, ◌≤◌}
+use mathlib.Core.Path.{ap}
 use native.Mathlib.Omega.{arith}
-use Rattle.laws.proofs.WordLaws.{ones_most}
-use Rattle.size_classes.specs.Slots.{most_slots, slots_per_span}
-use Rattle.size_classes.proofs.SlotTheorems.{slots_most}
-use Rattle.tables.specs.Cells.{bitmap_cell}
-use Rattle.span.proofs.CellsThere.{summary_there, local_word_there, remote_word_there, field_there}
-use Rattle.sound_spans.specs.WordSound.{WordsPassed}
+use Rattle.tables.specs.Cells.{Tables}
 use Rattle.sound_spans.proofs.TestLaws.{granted, refuted}
 use Rattle.sound_spans.proofs.SpanWords.{words_there, fields_there}
-use Rattle.sound_spans.proofs.SpanTurns.{passed_none, passed_more, enough, span_right, count_right, word_right}
 use Rattle.sound_spans.proofs.spans_filled.Goals as goal
 
--- A span has at most 4096 slots.
-few_slots : (slot : ℕ) → slots_per_span slot ≤ 4096
-unfolding most_slots
-few_slots = slots_most
+pub span_filled-requires : goal.span_filled-requires
+span_filled-requires c =
+    let u = rw (← c.view.view_is) at c.requires in
+    record { words = words_there u c.loop-s-test.true; fields = fields_there u c.loop-s-test.true }
 
-pub field-class-requires : goal.field-class-requires
-field-class-requires c = field_there _ _ (fields_there c.requires.used_cells c.spans-test.true) _ (omega arith)
+pub loop-s-preserved : goal.loop-s-preserved
+loop-s-preserved c =
+    below_more _ _ c.loop-s.invariant
+    (rw (← c.view.view_is)
+    (granted c.span_filled.result (c.span_filled.ensures c.view.inside.entries.now c.view.inside.heads.now c.view.inside.used) c.if-not-span_filled.false))
 
-pub field-requires : goal.field-requires
-field-requires c = field_there _ _ (fields_there c.requires.used_cells c.spans-test.true) _ (omega arith)
+pub returns-then-not-span_filled : goal.returns-then-not-span_filled
+returns-then-not-span_filled c =
+    rw (← c.view.view_is)
+    (λ all.
+    refuted c.span_filled.result (c.span_filled.ensures c.view.inside.entries.now c.view.inside.heads.now c.view.inside.used) c.if-not-span_filled.true
+    (all _ c.loop-s-test.true))
 
-pub word-summary-requires : goal.word-summary-requires
-word-summary-requires c = summary_there _ _ (words_there c.requires.used_cells c.spans-test.true) _ (omega arith)
-
-pub word-pending-requires : goal.word-pending-requires
-word-pending-requires c = summary_there _ _ (words_there c.requires.used_cells c.spans-test.true) _ (omega arith)
-
-pub loop-i-init : goal.loop-i-init
-loop-i-init c =
-    record {
-      fine = c.spans.invariant.fine;
-      read =
-          record {
-            of_class = c.field-class.ensures;
-            of_slots = c.slots_per_span-slots.ensures;
-            of_summary = c.word-summary.ensures;
-            of_pending = c.word-pending.ensures;
-          };
-      words = passed_none _ _ _ _ _;
-    }
-
-pub word-x-requires : goal.word-x-requires
-word-x-requires c = local_word_there _ _ (words_there c.requires.used_cells c.spans-test.true) _ c.loop-i-test.true
-
-pub word-p-requires : goal.word-p-requires
-word-p-requires c = remote_word_there _ _ (words_there c.requires.used_cells c.spans-test.true) _ c.loop-i-test.true
-
-pub overflow_add-sum : goal.overflow_add-sum
-overflow_add-sum c = omega (arith, c.count-sum.ensures, ones_most 64 c.word-x.result, c.loop-i.invariant.words.most, c.loop-i-test.true)
-
-pub loop-i-preserved : goal.loop-i-preserved
-loop-i-preserved c =
-    record {
-      fine = c.loop-i.invariant.fine;
-      read = c.loop-i.invariant.read;
-      words =
-          rw c.count-sum.ensures
-          (passed_more _ _ _ _ _ _ _ _ _ c.loop-i-test.true c.word-x.ensures c.word-p.ensures
-          (granted c.word_sound.result c.word_sound.ensures c.if-not-word_sound.false) c.loop-i.invariant.words);
-    }
-
--- All words were passed.
-all_words :
-    {bits : List ℕ} {s slots summary pending i total : ℕ} →
-    WordsPassed bits s slots summary pending i total → 64 ≤ i → WordsPassed bits s slots summary pending 64 total
-all_words {bits} {s} {slots} {summary} {pending} {i} {total} w h =
-    let e : i ≡ 64 = omega (arith, w.few, h) in
-    subst (λ (z : ℕ). WordsPassed bits s slots summary pending z total) e w
-
-pub overflow_sub-slots : goal.overflow_sub-slots
-overflow_sub-slots c = subst (λ (z : ℕ). z ≤ 4096) (sym c.slots_per_span-slots.ensures) (few_slots _)
-
-pub overflow_sub-sum : goal.overflow_sub-sum
-overflow_sub-sum c = enough c.loop-i.invariant.read [] [] 0 0 0 0 (all_words c.loop-i.invariant.words c.loop-i-test.false)
-
-pub field-requires-in-spans : goal.field-requires-in-spans
-field-requires-in-spans c = field_there _ _ (fields_there c.requires.used_cells c.spans-test.true) _ (omega arith)
-
-pub spans-preserved : goal.spans-preserved
-spans-preserved c =
-    record {
-      fine = c.loop-i.invariant.fine;
-      each =
-          below_more _ _ c.spans.invariant.each
-          (λ e h most n.
-          span_right c.loop-i.invariant.read e h most n _ _ (all_words c.loop-i.invariant.words c.loop-i-test.false) c.if-class-sizes.false c.if-field-heaps.false c.field.ensures
-          (λ i l. (c.shared_slice_known-2-1.given (bitmap_cell c.spans.s i)).fits)
-          c.if-sum-slots.false c.field-in-spans.ensures);
-    }
-
-pub returns-after-spans : goal.returns-after-spans
-returns-after-spans c e h most n = rw c.spans.invariant.fine (λ s l. c.spans.invariant.each s (omega arith) e h most n)
-
-pub returns-then-not-word_sound : goal.returns-then-not-word_sound
-returns-then-not-word_sound c e h most n all =
-    refuted c.word_sound.result c.word_sound.ensures c.if-not-word_sound.true
-    (word_right c.loop-i.invariant.read e h most n _ _ c.loop-i-test.true c.word-x.ensures c.word-p.ensures (all _ c.spans-test.true))
-
-pub returns-then-sum-slots : goal.returns-then-sum-slots
-returns-then-sum-slots c e h most n all =
-    c.if-sum-slots.true (count_right c.loop-i.invariant.read e h most n _ _ (all_words c.loop-i.invariant.words c.loop-i-test.false) c.field-in-spans.ensures (all _ c.spans-test.true))
+pub returns : goal.returns
+returns c s l = c.loop-s.invariant s (omega (arith, l, ap (λ (t : Tables). t.used) c.view.view_is, c.loop-s-test.false))
