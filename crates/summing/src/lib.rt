@@ -1,13 +1,15 @@
 // The class summary: one pass over the used spans adds each to the record of its class, then one pass over the classes writes slots and cached blocks.
 #![tactic(auto)]
 
-ghost use Rattle.std.specs.Prelude.{◌≡◌, List, ℕ, ◌+◌, ◌^◌, ◌<◌, ◌≤◌, length, set};
-ghost use Rattle.size_classes.specs.SlotSizes.{Admissible};
-ghost use Rattle.tables.specs.Shape.{shape};
-ghost use Rattle.tables.specs.Cells.{tables as table};
+ghost use Rattle.std.specs.Prelude.{◌≡◌, ◌+◌, ◌^◌, ◌<◌, length, set};
+ghost use Rattle.tables.specs.Shape.{classes};
 ghost use Rattle.span.specs.Room.{WordCells};
+ghost use Rattle.refusals.specs.Numbers.{number_of};
 ghost use Rattle.calls.specs.Summary.{class_records, summed, summary as summarised};
 ghost use Rattle.summing.specs.Tally.{summary_cell, summary_at, pending_in, cached_in, added, span_added, class_written, SpanFits, SpansCount, HeadsCount, ClassFits, ClassesFit, Countable, Tallied, Written};
+
+use refusals::Refusal;
+use tables::{Shape, TablesView};
 
 const CLASS: u64 = 0;
 
@@ -146,32 +148,19 @@ pub fn class_records(shape: &Shape, view: &TablesView, out: &mut [u64])
     write_classes(shape, view, out);
 }
 
-// The class summary, or a refusal with 1 or 2 that leaves the records.
-pub fn summary(
-    sizes: &[u64],
-    most: u64,
-    heaps: u64,
-    spans: u64,
-    bits: &[u64],
-    records: &[u64],
-    entries: &[u64],
-    heads: &[u64],
-    used: u64,
-    out: &mut [u64],
-) -> u64
-    requires admissible { Admissible sizes.now }
-    requires most_bound { most ≤ 2 ^ 32 }
-    ensures { summed result out.new ≡ summarised (shape sizes.now most heaps spans) (table bits.now records.now entries.now heads.now used) out.old }
+// The class summary, or a refusal that leaves the records.
+pub fn summary(shape: &Shape, view: &TablesView, out: &mut [u64]) -> Result<(), Refusal>
+    ensures { summed (number_of result) out.new ≡ summarised shape.now view.now out.old }
 {
-    if !fresh::as_stated(sizes, most, heaps, spans, bits, records, entries, heads) {
-        return 1;
+    if !fresh::as_stated(shape, view) {
+        return Err(Refusal::NotAsStated);
     }
-    if out.len() as u64 != sizes.len() as u64 * SUMMARY_CELLS {
-        return 1;
+    if out.len() as u64 != shape.sizes.classes() * SUMMARY_CELLS {
+        return Err(Refusal::NotAsStated);
     }
-    if !sound_check::is_sound(sizes, bits, records, entries, heads, heaps, spans, used) {
-        return 2;
+    if !sound_check::is_sound(shape, view) {
+        return Err(Refusal::Unsound);
     }
-    class_records(sizes, bits, records, heads, heaps, used, out);
-    0
+    class_records(shape, view, out);
+    Ok(())
 }

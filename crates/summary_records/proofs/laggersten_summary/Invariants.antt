@@ -4,4 +4,4 @@ use Rattle.summary_records.specs.Structured.{filled}
 use Rattle.summary_records.proofs.laggersten_summary.Given as goal
 
 abbrev pub invariant-loop-i : goal.invariant-loop-i
-invariant-loop-i l = l.record-items ≡ filled l.s.cells l.initial.record-items l.i
+invariant-loop-i l = l.out ≡ filled l.cells l.initial.out l.i
