@@ -11,7 +11,7 @@ use Rattle.summary_records.specs.declared.ClassRecord.{ClassRecord}
 use Rattle.summary_records.specs.Structured.{record_at, records_from, filled}
 
 -- As many as there were.
-pub filled_length : (flat : List ℕ) (out : List ClassRecord) (n : ℕ) → length (filled flat out n) ≡ length out
+filled_length : (flat : List ℕ) (out : List ClassRecord) (n : ℕ) → length (filled flat out n) ≡ length out
 filled_length flat out zero = refl
 filled_length flat out (suc n) = length-set (filled flat out n) n (record_at flat n) ∙ filled_length flat out n
 

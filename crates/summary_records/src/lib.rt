@@ -1,11 +1,11 @@
 // The class summary as 01 names it: a lent slice of 48 structs, one per class, filled from the flat numbers of the summary.
 #![tactic(auto)]
 
-ghost use Rattle.std.specs.Prelude.{◌≡◌, ◌<◌, length};
+ghost use Rattle.std.specs.Prelude.{◌≡◌, ◌<◌, ℕ, length};
 ghost use Rattle.tables.specs.Shape.{base_shape};
 ghost use Rattle.tables.specs.Cells.{tables as table};
 ghost use Rattle.summing.specs.Tally.{summary_cell, pending_cell};
-ghost use Rattle.summary_records.specs.Structured.{record_at, structured, summary_structs};
+ghost use Rattle.summary_records.specs.Structured.{filled, record_at, structured, summary_structs};
 ghost use Rattle.summary_records.specs.Counting.{counted_of};
 
 use refusals::Refusal;
@@ -62,6 +62,16 @@ fn count_all(heaps: u64, spans: u64, view: &TablesView, lent: usize) -> Result<[
     Ok(cells)
 }
 
+// Writes the five numbers of each record.
+fn write(out: &mut [ClassRecord], cells: &[u64])
+    requires { (i : ℕ) → i < length out.old → summary_cell i pending_cell < length cells.now }
+    ensures { out.new ≡ filled cells.now out.old (length out.old) }
+{
+    for (i, record) in out.iter_mut().enumerate() {
+        *record = record_at(cells, i);
+    }
+}
+
 // The class summary of a table, one record per class, or a refusal with 1 or 2 that leaves the records.
 #[unsafe(no_mangle)]
 pub extern "C" fn laggersten_summary(
@@ -85,9 +95,7 @@ pub extern "C" fn laggersten_summary(
     };
     match count_all(heaps, spans, &view, out.len()) {
         Ok(cells) => {
-            for (i, record) in out.iter_mut().enumerate() {
-                *record = record_at(&cells, i);
-            }
+            write(out, &cells);
             0
         }
         Err(refusal) => u64::from(refusal),
