@@ -1,12 +1,11 @@
 -- More laws of `paste`, a row of cells copied over another: cell by cell, and one cell at a time. Assumes nothing.
 use mathlib.Core.Path.{◌≡◌, sym, ap, ◌∙◌}
-use mathlib.Core.List.{List, [], ◌∷◌, ◌++◌, append_assoc, append-nil}
+use mathlib.Core.List.{List, [], ◌∷◌, ◌++◌, append_assoc}
 use Prim.Native.Nat.{ℕ, suc, ◌+◌, ◌-◌, ◌<◌, ◌≤◌}
-use native.Mathlib.Nat.{add-suc, suc-add, zero-add}
-use native.Mathlib.Numerals.{add-one}
+use native.Mathlib.Nat.{add-suc, suc-add}
 use native.Mathlib.Omega.{arith}
-use lib.ListN.{length, take, drop, get_or, set, length-drop, drop_of_length-le, get_or-append}
-use lib.Seq.{paste, paste-suc, take-paste, drop-paste, drop-drop, take-append-add, take-suc-set, drop-set-lt, get_or-take, get_or-drop, get_or-append-add, length-take-le, length_paste_head, append_snoc, take_all}
+use lib.ListN.{length, take, drop, get_or, set, get_or-append}
+use lib.Seq.{paste, take-paste, drop-paste, drop-drop, take-append-add, take-suc-set, drop-set-lt, get_or-take, get_or-drop, get_or-append-add, length-take-le, length_paste_head, append_snoc, take_all}
 
 -- A copy of one cell more is a store and a copy of the rest.
 pub paste_cons : (d : List ℕ) (at x : ℕ) (xs : List ℕ) (n : ℕ) → at < length d → paste d at (x ∷ xs) (suc n) ≡ paste (set d at x) (suc at) xs n
@@ -47,34 +46,6 @@ paste_after d at s n i hd hs h =
     ∙ get_or-append-add (take at d ++ take n s) (drop (at + n) d) (i - (at + n)) 0
     ∙ get_or-drop (at + n) d (i - (at + n)) 0
     ∙ ap (λ (z : ℕ). get_or d z 0) f
-
--- A turn of a loop that copies a row: one cell more.
-pub paste_more :
-    (d : List ℕ) (at : ℕ) (s e : List ℕ) (n : ℕ) →
-    e ≡ paste d at s n →
-    at + n < length d →
-    n < length s →
-    set e (at + n) (get_or s n 0) ≡ paste d at s (n + 1)
-paste_more d at s e n q hd hs = ap (λ (z : List ℕ). set z (at + n) (get_or s n 0)) q ∙ rw add-one (paste-suc d at s n 0 hd hs)
-
--- A turn of a loop that gathers cells from a place on: one cell more.
-pub gather_more :
-    (d : List ℕ) (at : ℕ) (s e : List ℕ) (n : ℕ) →
-    e ≡ paste d 0 (drop at s) n →
-    n < length d →
-    at + n < length s →
-    set e n (get_or s (at + n) 0) ≡ paste d 0 (drop at s) (n + 1)
-gather_more d at s e n q hd hs =
-    ap (λ (z : ℕ). set e n z) (sym (get_or-drop at s n 0))
-    ∙ ap (λ (z : ℕ). set e z (get_or (drop at s) n 0)) (sym (zero-add n))
-    ∙ paste_more d 0 (drop at s) e n q (omega arith) (rw length-drop (omega arith))
-
--- What a loop has gathered when it has filled all cells.
-pub gather_all : (d : List ℕ) (at : ℕ) (s e : List ℕ) (n : ℕ) → e ≡ paste d 0 (drop at s) n → length d ≡ n → e ≡ take n (drop at s)
-gather_all d at s e n q h =
-    q
-    ∙ ap (λ (z : List ℕ). take n (drop at s) ++ z) (drop_of_length-le d {i = 0 + n} (omega arith))
-    ∙ append-nil (take n (drop at s))
 
 -- A copy of two rows, one behind the other, is a copy of the first and then of the second.
 pub paste_append :

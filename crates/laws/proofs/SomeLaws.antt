@@ -2,9 +2,8 @@
 use mathlib.Core.Path.{◌≡◌, refl, sym, ◌∙◌}
 use mathlib.Core.Bool.{Bool, true, false, ◌&&◌, ◌||◌, true≢false}
 use mathlib.Core.Logic.{◌⊎◌, inl, inr, ⊎_elim}
-use Prim.Native.Nat.{ℕ, zero, suc, ◌+◌, ◌<◌}
+use Prim.Native.Nat.{ℕ, zero, suc, ◌<◌}
 use native.Mathlib.Decide.{dec_lt}
-use native.Mathlib.Numerals.{add-one}
 use native.Mathlib.Omega.{arith}
 use Rattle.laws.specs.Choice.{some, every}
 use Rattle.laws.proofs.FirstLaws.{tested}
@@ -30,11 +29,6 @@ and_four a b c d t =
     (z.0, z.1, y.1, x.1)
 
 module _ (f : ℕ → Bool) where
-  -- One number more.
-  pub some_next : (n : ℕ) → some (n + 1) f ≡ some n f || f n
-  unfolding some
-  some_next n = rw add-one
-
   -- A number below the bound at which the test passes.
   pub some_here : (n i : ℕ) → i < n → f i ≡ true → some n f ≡ true
   unfolding some

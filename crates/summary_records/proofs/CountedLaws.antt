@@ -2,44 +2,73 @@
 use mathlib.Core.Path.{◌≡◌, refl, sym, ap, subst, ◌∙◌}
 use mathlib.Core.Bool.{Bool, true, false, ◌&&◌, cond, and-false}
 use mathlib.Core.List.{List}
-use Prim.Native.Nat.{ℕ, ◌*◌, ◌<◌, ◌≤◌}
-use native.Mathlib.Decide.{ℕ_discrete}
+use Prim.Native.Nat.{ℕ, ◌*◌, ◌<◌}
 use native.Mathlib.Omega.{arith}
 use lib.Dec.{eqb}
-use lib.ListN.{length, length-replicate}
-use borrow.Author.Tests.{eq-eqb, ne_eqb}
+use lib.ListN.{length, length-replicate, replicate}
+use borrow.Author.Tests.{eq-eqb, ne_eqb, eqb-true}
+use Rattle.std.specs.Prelude.{Result, Ok, Err}
+use Rattle.laws.proofs.SomeLaws.{and_both}
+use Rattle.refusals.specs.declared.Refusal.{Refusal}
+use Rattle.refusals.specs.declared.Refusal.TheVariants.{NotAsStated, Unsound, NoSuchHeap, TooFewWords, TooLarge, Exhausted, NoSuchSlot, NotOut, Malformed, NotWhole}
+use Rattle.refusals.specs.Numbers.{number}
 use Rattle.size_classes.specs.SlotSizes.{slot_sizes, rising, groups}
-use Rattle.tables.specs.Shape.{Shape, shape, base_shape, most_spans, classes}
+use Rattle.tables.specs.Shape.{Shape, base_shape, classes}
 use Rattle.tables.specs.Cells.{Tables, as_stated}
 use Rattle.sound.specs.Decided.{is_sound}
-use Rattle.calls.specs.Summary.{summary_cells, class_records, summed, summary}
+use Rattle.calls.specs.Summary.{Summed, summary_cells, class_records, summed, summary}
 use Rattle.summing.specs.Tally.{summary_cell, pending_cell}
 use Rattle.summing.proofs.ColumnLaws.{cell_in, name_in}
 use Rattle.summing.proofs.RecordLaws.{records_long}
 use Rattle.summary_records.specs.declared.ClassRecord.{ClassRecord}
-use Rattle.summary_records.specs.declared.Counted.{Counted}
-use Rattle.summary_records.specs.Structured.{summary_structs, records_from, structured, class_structs, filled}
-use Rattle.summary_records.specs.Counting.{base_classes, blank_cells, of_summed, counted_of, counted_turns}
+use Rattle.summary_records.specs.Structured.{Structured, summary_structs, records_from, structured, class_structs, filled}
+use Rattle.summary_records.specs.Counting.{base_classes, counted_of}
 use Rattle.summary_records.proofs.FilledRecords.{filled_all}
 use Rattle.summary_records.proofs.NamedRecords.{table_structs}
+
+-- ---- a refusal is known by its number
+
+refusal_of : ℕ → Refusal
+refusal_of n =
+    cond (eqb n 1) NotAsStated
+    (cond (eqb n 2) Unsound
+    (cond (eqb n 3) NoSuchHeap
+    (cond (eqb n 4) TooFewWords
+    (cond (eqb n 5) TooLarge (cond (eqb n 6) Exhausted (cond (eqb n 7) NoSuchSlot (cond (eqb n 8) NotOut (cond (eqb n 9) Malformed NotWhole))))))))
+
+refusal_back : (e : Refusal) → refusal_of (number e) ≡ e
+unfolding refusal_of
+refusal_back NotAsStated = refl
+refusal_back Unsound = refl
+refusal_back NoSuchHeap = refl
+refusal_back TooFewWords = refl
+refusal_back TooLarge = refl
+refusal_back Exhausted = refl
+refusal_back NoSuchSlot = refl
+refusal_back NotOut = refl
+refusal_back Malformed = refl
+refusal_back NotWhole = refl
+
+-- No refusal has the number 0.
+number_some : (e : Refusal) → number e ≡ 0 → ⊥
+unfolding refusal_of
+number_some e q =
+    let n : number e ≡ 10 = ap number (sym (refusal_back e) ∙ ap refusal_of q) in
+    let z : ⊥ = omega (arith, n, q) in z
+
+number_known : (e f : Refusal) → number e ≡ number f → e ≡ f
+number_known e f q = sym (refusal_back e) ∙ ap refusal_of q ∙ refusal_back f
 
 -- ---- what is counted
 
 -- Another number of records is refused.
-pub counted_refused : (g : Shape) (t : Tables) {lent : ℕ} → (lent ≡ base_classes → ⊥) → record { number = 1; cells = blank_cells } ≡ counted_of g t lent
+pub counted_refused : (g : Shape) (t : Tables) {lent : ℕ} → (lent ≡ base_classes → ⊥) → Err NotAsStated ≡ counted_of g t lent
 unfolding counted_of
-counted_refused g t {lent} n = rw (ne_eqb lent base_classes n)
+counted_refused g t {lent} n = rw (ne_eqb lent base_classes n, and-false (as_stated g t))
 
--- Else it is the flat summary, over 01's list and limit.
-pub counted_all :
-    (heaps spans : ℕ) (t : Tables) (sizes cells : List ℕ) {lent number : ℕ} → lent ≡ base_classes → sizes ≡ slot_sizes →
-    summed number cells ≡ summary (shape sizes most_spans heaps spans) t blank_cells →
-    record { number = number; cells = cells } ≡ counted_of (base_shape heaps spans) t lent
-unfolding counted_of
-counted_all heaps spans t sizes cells {lent} e s q =
-    rw (eq-eqb lent base_classes e) (ap of_summed (q ∙ ap (λ (l : List ℕ). summary (shape l most_spans heaps spans) t blank_cells) s))
-
--- ---- the three answers
+-- the cells that the flat call is lent
+abbrev blank_cells : List ℕ
+blank_cells = replicate (base_classes * summary_cells) 0
 
 -- 01 has 48 classes.
 base_classes_lem : (heaps spans : ℕ) → classes (base_shape heaps spans) ≡ base_classes
@@ -54,85 +83,116 @@ module _ (heaps spans : ℕ) (t : Tables) where
   abbrev g : Shape
   g = base_shape heaps spans
 
-  abbrev made : Counted
-  made = record { number = 0; cells = class_records (classes g) 0 g t }
+  abbrev cells_of : List ℕ
+  cells_of = class_records (classes g) 0 g t
 
-  abbrev refused : ℕ → Counted
-  refused number = record { number = number; cells = blank_cells }
+  -- The flat summary, by the tests.
+  summary_as :
+      (a s : Bool) → as_stated g t ≡ a → is_sound g t ≡ s →
+      summary g t blank_cells ≡ cond a (cond s (summed 0 cells_of) (summed 2 blank_cells)) (summed 1 blank_cells)
+  unfolding summary
+  summary_as true true ea es = rw (ea, es, eq-eqb (length blank_cells) (classes g * summary_cells) (blank_long heaps spans))
+  summary_as true false ea es = rw (ea, es, eq-eqb (length blank_cells) (classes g * summary_cells) (blank_long heaps spans))
+  summary_as false s ea es = rw ea
 
   counted_as :
-      (a s : Bool) → as_stated g t ≡ a → is_sound g t ≡ s → counted_of g t base_classes ≡ cond a (cond s made (refused 2)) (refused 1)
-  unfolding counted_of summary
-  counted_as true true ea es = rw (ea, es, eq-eqb (length blank_cells) (classes g * summary_cells) (blank_long heaps spans))
-  counted_as true false ea es = rw (ea, es, eq-eqb (length blank_cells) (classes g * summary_cells) (blank_long heaps spans))
+      (a s : Bool) → as_stated g t ≡ a → is_sound g t ≡ s → counted_of g t base_classes ≡ cond a (cond s (Ok cells_of) (Err Unsound)) (Err NotAsStated)
+  unfolding counted_of
+  counted_as true true ea es = rw (ea, es)
+  counted_as true false ea es = rw (ea, es)
   counted_as false s ea es = rw ea
+
+  module _ {lent : ℕ} (l : lent ≡ base_classes) {cells : List ℕ} where
+    -- What the flat summary gives is what is counted.
+    pub counted_given : summed 0 cells ≡ summary g t blank_cells → Ok cells ≡ counted_of g t lent
+    counted_given q = rw l (go (as_stated g t) (is_sound g t) refl refl)
+      where
+        go : (a s : Bool) → as_stated g t ≡ a → is_sound g t ≡ s → Ok cells ≡ counted_of g t base_classes
+        go true true ea es = ap (λ (z : Summed). Ok z.records) (q ∙ summary_as true true ea es) ∙ sym (counted_as true true ea es)
+        go true false ea es = absurd (let n : 0 ≡ 2 = ap (λ (z : Summed). z.number) (q ∙ summary_as true false ea es) in let z : ⊥ = omega (arith, n) in z)
+        go false s ea es = absurd (let n : 0 ≡ 1 = ap (λ (z : Summed). z.number) (q ∙ summary_as false s ea es) in let z : ⊥ = omega (arith, n) in z)
+
+    -- And so is a refusal.
+    pub counted_not : (e : Refusal) → summed (number e) cells ≡ summary g t blank_cells → Err e ≡ counted_of g t lent
+    counted_not e q = rw l (go (as_stated g t) (is_sound g t) refl refl)
+      where
+        go : (a s : Bool) → as_stated g t ≡ a → is_sound g t ≡ s → Err e ≡ counted_of g t base_classes
+        go true true ea es = absurd (number_some e (ap (λ (z : Summed). z.number) (q ∙ summary_as true true ea es)))
+        go true false ea es =
+            ap Err (number_known e Unsound (ap (λ (z : Summed). z.number) (q ∙ summary_as true false ea es))) ∙ sym (counted_as true false ea es)
+        go false s ea es =
+            ap Err (number_known e NotAsStated (ap (λ (z : Summed). z.number) (q ∙ summary_as false s ea es))) ∙ sym (counted_as false s ea es)
+
+  -- ---- the three answers
 
   -- What holds of each answer where it is given holds of what is counted.
   counted_cases :
-      (P : Counted → Type 0) (lent : ℕ) → (lent ≡ base_classes → as_stated g t ≡ true → is_sound g t ≡ true → P made) →
-      (lent ≡ base_classes → as_stated g t ≡ true → is_sound g t ≡ false → P (refused 2)) → (as_stated g t && eqb lent base_classes ≡ false → P (refused 1)) →
+      (P : Result (List ℕ) Refusal → Type 0) (lent : ℕ) →
+      (as_stated g t && eqb lent base_classes ≡ true → is_sound g t ≡ true → P (Ok cells_of)) →
+      (as_stated g t && eqb lent base_classes ≡ true → is_sound g t ≡ false → P (Err Unsound)) →
+      (as_stated g t && eqb lent base_classes ≡ false → P (Err NotAsStated)) →
       P (counted_of g t lent)
-  counted_cases P lent yes₀ yes₂ yes₁ = go (ℕ_discrete lent base_classes) (as_stated g t) (is_sound g t) refl refl
+  unfolding counted_of
+  counted_cases P lent yes₀ yes₂ yes₁ = go (as_stated g t && eqb lent base_classes) (is_sound g t) refl refl
     where
-      go : Dec (lent ≡ base_classes) → (a s : Bool) → as_stated g t ≡ a → is_sound g t ≡ s → P (counted_of g t lent)
-      go (no n) a s ea es = subst P (counted_refused g t n) (yes₁ (rw (ne_eqb lent base_classes n) (and-false (as_stated g t))))
-      go (yes e) true true ea es = subst (λ (z : ℕ). P (counted_of g t z)) (sym e) (subst P (sym (counted_as true true ea es)) (yes₀ e ea es))
-      go (yes e) true false ea es = subst (λ (z : ℕ). P (counted_of g t z)) (sym e) (subst P (sym (counted_as true false ea es)) (yes₂ e ea es))
-      go (yes e) false s ea es = subst (λ (z : ℕ). P (counted_of g t z)) (sym e) (subst P (sym (counted_as false s ea es)) (yes₁ (rw ea)))
+      go :
+          (a s : Bool) → as_stated g t && eqb lent base_classes ≡ a → is_sound g t ≡ s →
+          P (cond (as_stated g t && eqb lent base_classes) (cond (is_sound g t) (Ok cells_of) (Err Unsound)) (Err NotAsStated))
+      go true true ea es = rw (ea, es) (yes₀ ea es)
+      go true false ea es = rw (ea, es) (yes₂ ea es)
+      go false s ea es = rw ea (yes₁ ea)
+
+  -- where cells are given, there are five for each record
+  abbrev Fits : ℕ → Result (List ℕ) Refusal → Type 0
+  Fits lent (Ok cells) = length cells ≡ lent * summary_cells
+  Fits lent (Err e) = Unit
+
+  counted_fits : (lent : ℕ) → Fits lent (counted_of g t lent)
+  counted_fits lent =
+      counted_cases (Fits lent) lent
+      (λ a s.
+      let e : lent ≡ base_classes = eqb-true lent base_classes (and_both (as_stated g t) (eqb lent base_classes) a).1 in
+      records_long (classes g) 0 g t ∙ ap (λ (n : ℕ). n * summary_cells) (base_classes_lem heaps spans ∙ sym e))
+      (λ a s. tt) (λ a. tt)
+
+  -- The numbers of each record are there.
+  pub counted_there : {lent i : ℕ} {cells : List ℕ} → Ok cells ≡ counted_of g t lent → i < lent → summary_cell i pending_cell < length cells
+  counted_there {lent} {i} {cells} e h =
+      let long : length cells ≡ lent * summary_cells = subst (Fits lent) (sym e) (counted_fits lent) in
+      subst (λ (z : ℕ). summary_cell i pending_cell < z) (sym long) (cell_in h (name_in (omega arith)))
 
   -- ---- the records
 
-  turns_made : counted_turns made ≡ base_classes
-  unfolding counted_turns
-  turns_made = refl
-
-  turns_refused : (n : ℕ) → 0 < n → counted_turns (refused n) ≡ 0
-  unfolding counted_turns
-  turns_refused n h = rw (ne_eqb n 0 (λ e. let z : ⊥ = omega arith in z))
-
-  -- No more are written than are lent.
-  pub counted_within : (lent : ℕ) → counted_turns (counted_of g t lent) ≤ lent
-  counted_within lent =
-      counted_cases (λ s. counted_turns s ≤ lent) lent (λ e a s. omega (arith, turns_made, e)) (λ e a s. omega (arith, turns_refused 2 (omega arith)))
-      (λ e. omega (arith, turns_refused 1 (omega arith)))
-
-  -- The numbers of a record that is written are there.
-  pub counted_there : (lent i : ℕ) → i < counted_turns (counted_of g t lent) → summary_cell i pending_cell < length (counted_of g t lent).cells
-  counted_there lent i =
-      counted_cases (λ s. i < counted_turns s → summary_cell i pending_cell < length s.cells) lent
-      (λ e a s h.
-      subst (λ (z : ℕ). summary_cell i pending_cell < z) (sym (records_long (classes g) 0 g t))
-      (cell_in (subst (λ (z : ℕ). i < z) (turns_made ∙ sym (base_classes_lem heaps spans)) h) (name_in (omega arith))))
-      (λ e a s h. absurd (let z : ⊥ = omega (arith, h, turns_refused 2 (omega arith)) in z))
-      (λ e h. absurd (let z : ⊥ = omega (arith, h, turns_refused 1 (omega arith)) in z))
-
   module _ (out : List ClassRecord) where
-    given : length out ≡ base_classes → as_stated g t ≡ true → is_sound g t ≡ true → summary_structs g t out ≡ structured 0 (class_structs (classes g) 0 g t)
+    structs_as :
+        (a s : Bool) → as_stated g t && eqb (length out) base_classes ≡ a → is_sound g t ≡ s →
+        summary_structs g t out ≡ cond a (cond s (structured 0 (class_structs (classes g) 0 g t)) (structured 2 out)) (structured 1 out)
     unfolding summary_structs
-    given e a s = rw (a, s, eq-eqb (length out) (classes g) (e ∙ sym (base_classes_lem heaps spans)))
+    structs_as a s ea es =
+        let q : as_stated g t && eqb (length out) (classes g) ≡ a =
+        ap (λ (z : ℕ). as_stated g t && eqb (length out) z) (base_classes_lem heaps spans) ∙ ea in
+        rw (q, es)
 
-    unsound : length out ≡ base_classes → as_stated g t ≡ true → is_sound g t ≡ false → summary_structs g t out ≡ structured 2 out
-    unfolding summary_structs
-    unsound e a s = rw (a, s, eq-eqb (length out) (classes g) (e ∙ sym (base_classes_lem heaps spans)))
-
-    not_stated_lem : as_stated g t && eqb (length out) base_classes ≡ false → summary_structs g t out ≡ structured 1 out
-    unfolding summary_structs
-    not_stated_lem e =
-        let q : as_stated g t && eqb (length out) (classes g) ≡ false = ap (λ (z : ℕ). as_stated g t && eqb (length out) z) (base_classes_lem heaps spans) ∙ e in
-        rw q
+    -- what is left of the records by what is counted
+    abbrev left_by : Result (List ℕ) Refusal → Structured
+    left_by (Ok cells) = structured 0 (filled cells out (length out))
+    left_by (Err e) = structured (number e) out
 
     -- The number and the records that are left are those of the definition.
-    pub counted_structs :
-        structured (counted_of g t (length out)).number (filled (counted_of g t (length out)).cells out (counted_turns (counted_of g t (length out)))) ≡
-        summary_structs g t out
+    counted_structs : left_by (counted_of g t (length out)) ≡ summary_structs g t out
     counted_structs =
-        counted_cases (λ s. structured s.number (filled s.cells out (counted_turns s)) ≡ summary_structs g t out) (length out)
-        (λ e a s.
+        counted_cases (λ s. left_by s ≡ summary_structs g t out) (length out)
+        (λ a s.
+        let e : length out ≡ base_classes = eqb-true (length out) base_classes (and_both (as_stated g t) (eqb (length out) base_classes) a).1 in
         ap (λ (l : List ClassRecord). structured 0 l)
-        (ap (filled (class_records (classes g) 0 g t) out) (turns_made ∙ sym e)
-        ∙ filled_all (class_records (classes g) 0 g t) out
-        ∙ ap (λ (n : ℕ). records_from n 0 (class_records (classes g) 0 g t)) (e ∙ sym (base_classes_lem heaps spans))
-        ∙ table_structs g t)
-        ∙ sym (given e a s))
-        (λ e a s. ap (λ (n : ℕ). structured 2 (filled blank_cells out n)) (turns_refused 2 (omega arith)) ∙ sym (unsound e a s))
-        (λ e. ap (λ (n : ℕ). structured 1 (filled blank_cells out n)) (turns_refused 1 (omega arith)) ∙ sym (not_stated_lem e))
+        (filled_all cells_of out ∙ ap (λ (n : ℕ). records_from n 0 cells_of) (e ∙ sym (base_classes_lem heaps spans)) ∙ table_structs g t)
+        ∙ sym (structs_as true true a s))
+        (λ a s. sym (structs_as true false a s))
+        (λ a. sym (structs_as false (is_sound g t) a refl))
+
+    -- All written, and none.
+    pub structs_written : {cells : List ℕ} → Ok cells ≡ counted_of g t (length out) → structured 0 (filled cells out (length out)) ≡ summary_structs g t out
+    structs_written e = ap left_by e ∙ counted_structs
+
+    pub structs_stay : (e : Refusal) → Err e ≡ counted_of g t (length out) → structured (number e) out ≡ summary_structs g t out
+    structs_stay e q = ap left_by q ∙ counted_structs

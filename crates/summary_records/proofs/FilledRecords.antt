@@ -1,27 +1,19 @@
 -- Laws of the records as they are filled from flat numbers. Assumes nothing.
 use mathlib.Core.Path.{◌≡◌, refl, sym, ap, subst, ◌∙◌}
-use mathlib.Core.List.{List, ◌++◌}
+use mathlib.Core.List.{List}
 use Prim.Native.Nat.{ℕ, zero, suc, ◌+◌, ◌<◌, ◌≤◌}
 use native.Mathlib.Nat.{add-zero, zero-add}
 use native.Mathlib.Decide.{ℕ_discrete}
 use native.Mathlib.Omega.{arith}
 use lib.ListN.{length, get_or, set, length-set}
-use lib.Seq.{ext_get_or, get_or-set_same, get_or-set_other, set-append_left}
+use lib.Seq.{ext_get_or, get_or-set_same, get_or-set_other}
 use Rattle.summary_records.specs.declared.ClassRecord.{ClassRecord}
 use Rattle.summary_records.specs.Structured.{record_at, records_from, filled}
 
 -- As many as there were.
-pub filled_length : (flat : List ℕ) (out : List ClassRecord) (n : ℕ) → length (filled flat out n) ≡ length out
+filled_length : (flat : List ℕ) (out : List ClassRecord) (n : ℕ) → length (filled flat out n) ≡ length out
 filled_length flat out zero = refl
 filled_length flat out (suc n) = length-set (filled flat out n) n (record_at flat n) ∙ filled_length flat out n
-
--- Records after those that are written stay.
-pub filled_left :
-    (flat : List ℕ) (a b : List ClassRecord) (n : ℕ) → n ≤ length a → filled flat (a ++ b) n ≡ filled flat a n ++ b
-filled_left flat a b zero h = refl
-filled_left flat a b (suc n) h =
-    ap (λ (r : List ClassRecord). set r n (record_at flat n)) (filled_left flat a b n (omega arith))
-    ∙ set-append_left (filled flat a n) b n (record_at flat n) (omega (arith, filled_length flat a n))
 
 -- A written record holds its five numbers.
 filled_at :

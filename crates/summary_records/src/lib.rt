@@ -1,12 +1,16 @@
 // The class summary as 01 names it: a lent slice of 48 structs, one per class, filled from the flat numbers of the summary.
 #![tactic(auto)]
 
-ghost use Rattle.std.specs.Prelude.{◌≡◌, ◌<◌, length};
+ghost use Rattle.std.specs.Prelude.{◌≡◌, ◌<◌, ℕ, length};
 ghost use Rattle.tables.specs.Shape.{base_shape};
 ghost use Rattle.tables.specs.Cells.{tables as table};
 ghost use Rattle.summing.specs.Tally.{summary_cell, pending_cell};
-ghost use Rattle.summary_records.specs.Structured.{record_at, structured, summary_structs};
-ghost use Rattle.summary_records.specs.Counting.{counted_of, counted_turns};
+ghost use Rattle.summary_records.specs.Structured.{filled, record_at, structured, summary_structs};
+ghost use Rattle.summary_records.specs.Counting.{counted_of};
+
+use refusals::Refusal;
+use size_classes::SlotSizes;
+use tables::{Shape, TablesView};
 
 const CLASSES: usize = 48;
 
@@ -38,66 +42,34 @@ fn record_at(flat: &[u64], i: usize) -> ClassRecord
     }
 }
 
-// The flat numbers of all classes, and the number of the summary's answer.
-#[derive(Clone, Copy)]
-pub struct Counted {
-    pub number: u64,
-    pub cells: [u64; 240],
-}
-
-// The class summary of a table, where so many records are lent.
-fn count_all(
-    heaps: u64,
-    spans: u64,
-    bits: &[u64],
-    records: &[u64],
-    entries: &[u64],
-    heads: &[u64],
-    used: u64,
-    lent: usize,
-) -> Counted
-    ensures { result ≡ counted_of (base_shape heaps spans) (table bits.now records.now entries.now heads.now used) lent }
+// The flat numbers of all classes, where so many records are lent.
+fn count_all(heaps: u64, spans: u64, view: &TablesView, lent: usize) -> Result<[u64; 240], Refusal>
+    ensures { result ≡ counted_of (base_shape heaps spans) view.now lent }
 {
-    let sizes = size_classes::slot_sizes();
-    let mut cells = [0; 240];
     if lent != CLASSES {
-        return Counted {
-            number: 1,
-            cells: cells,
-        };
+        return Err(Refusal::NotAsStated);
     }
-    let number = summing::summary(
-        &sizes, MOST_SPANS, heaps, spans, bits, records, entries, heads, used, &mut cells,
-    );
-    Counted {
-        number: number,
-        cells: cells,
-    }
+    let list = size_classes::slot_sizes();
+    let sizes = SlotSizes::new(&list);
+    let shape = Shape {
+        sizes: &sizes,
+        most: MOST_SPANS,
+        heaps,
+        spans,
+    };
+    let mut cells = [0; 240];
+    summing::summary(&shape, view, &mut cells)?;
+    Ok(cells)
 }
 
-// The record of class i.
-fn record_of(s: Counted, i: usize) -> ClassRecord
-    requires { summary_cell i pending_cell < length s.cells }
-    ensures { result ≡ record_at s.cells i }
+// Writes the five numbers of each record.
+fn write(out: &mut [ClassRecord], cells: &[u64])
+    requires { (i : ℕ) → i < length out.old → summary_cell i pending_cell < length cells.now }
+    ensures { out.new ≡ filled cells.now out.old (length out.old) }
 {
-    let cells = s.cells;
-    record_at(&cells, i)
-}
-
-// How many records are written: all, or none where the summary is refused.
-fn turns_of(s: Counted) -> usize
-    ensures { result ≡ counted_turns s }
-{
-    if s.number != 0 {
-        return 0;
+    for (i, record) in out.iter_mut().enumerate() {
+        *record = record_at(cells, i);
     }
-    CLASSES
-}
-
-fn number_of(s: Counted) -> u64
-    ensures { result ≡ s.number }
-{
-    s.number
 }
 
 // The class summary of a table, one record per class, or a refusal with 1 or 2 that leaves the records.
@@ -114,10 +86,18 @@ pub extern "C" fn laggersten_summary(
 ) -> u64
     ensures { structured result out.new ≡ summary_structs (base_shape heaps spans) (table bits.now records.now entries.now heads.now used) out.old }
 {
-    let s = count_all(heaps, spans, bits, records, entries, heads, used, out.len());
-    let n = turns_of(s);
-    for (i, record) in out[..n].iter_mut().enumerate() {
-        *record = record_of(s, i);
+    let view = TablesView {
+        bits,
+        spans: records,
+        entries,
+        heads,
+        used,
+    };
+    match count_all(heaps, spans, &view, out.len()) {
+        Ok(cells) => {
+            write(out, &cells);
+            0
+        }
+        Err(refusal) => u64::from(refusal),
     }
-    number_of(s)
 }

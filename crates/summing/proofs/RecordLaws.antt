@@ -8,22 +8,22 @@ use lib.ListN.{length, get_or, set, length-set, length-append, get_or-append}
 use lib.Seq.{ext_get_or, get_or-append-add}
 use Rattle.size_classes.specs.SlotSizes.{slot_size}
 use Rattle.size_classes.specs.Slots.{slots_per_span}
-use Rattle.tables.specs.Shape.{Shape, shape, row_of, class_heap}
-use Rattle.tables.specs.Cells.{Tables, tables}
+use Rattle.tables.specs.Shape.{Shape, classes}
+use Rattle.tables.specs.Cells.{Tables}
 use Rattle.calls.specs.Summary.{over_spans, pending_slots, class_record, summary_cells, class_records}
 use Rattle.summing.specs.Tally.{spans_cell, slots_cell, used_cell, cached_cell, pending_cell, summary_cell, summary_at, pending_in, tally, cached_in, class_written, Tallied, Written}
 use Rattle.summing.proofs.ColumnLaws.{cell_in, name_in, column_other, column_more}
 
 -- ---- one class is written
 
-module _ {sizes heads : List ℕ} {heaps : ℕ} {before : List ℕ} {n : ℕ} {out : List ℕ} (h : n < length sizes) (w : Written sizes heads heaps before n out) where
+module _ {g : Shape} {t : Tables} {before : List ℕ} {n : ℕ} {out : List ℕ} (h : n < classes g) (w : Written g t before n out) where
   -- One class more.
-  pub written_more : Written sizes heads heaps before (n + 1) (class_written sizes heads heaps n out)
+  pub written_more : Written g t before (n + 1) (class_written g t n out)
   unfolding class_written
   written_more =
-      let v = summary_at out n spans_cell * slots_per_span (slot_size sizes n) in
+      let v = summary_at out n spans_cell * slots_per_span (slot_size g.sizes n) in
       let a = set out (summary_cell n slots_cell) v in
-      let k = cached_in heads (length sizes) heaps n in
+      let k = cached_in g t g.heaps n in
       let la : length a ≡ length out = length-set out (summary_cell n slots_cell) v in
       let no : (x y : ℕ) → (x < y) → x ≡ y → ⊥ = λ x y l e. let z : ⊥ = omega arith in z in
       let on : (x y : ℕ) → (y < x) → x ≡ y → ⊥ = λ x y l e. let z : ⊥ = omega arith in z in
@@ -35,7 +35,7 @@ module _ {sizes heads : List ℕ} {heaps : ℕ} {before : List ℕ} {n : ℕ} {o
         of_slots =
             column_other (omega arith)
             (column_more (omega arith) w.of_slots v (subst (λ (z : ℕ). summary_cell n slots_cell < z) (sym w.long) (cell_in h (name_in (omega arith))))
-            (ap (λ (z : ℕ). z * slots_per_span (slot_size sizes n)) (w.of_spans.at n h)))
+            (ap (λ (z : ℕ). z * slots_per_span (slot_size g.sizes n)) (w.of_spans.at n h)))
             n k (omega arith) (no slots_cell cached_cell (omega arith));
         of_used =
             column_other (omega arith) (column_other (omega arith) w.of_used n v (omega arith) (on used_cell slots_cell (omega arith))) n k (omega arith)
@@ -110,20 +110,17 @@ records_by_cells n g t out l each =
 
 -- ---- the columns are the records
 
-module _ {sizes bits spans heads : List ℕ} {heaps used : ℕ} {before out : List ℕ} (t : Tallied (length sizes) bits spans used before) (w : Written sizes heads heaps before (length sizes) out) (entries : List ℕ) (most n : ℕ) where
+module _ {g : Shape} {t : Tables} {before out : List ℕ} (o : Tallied g t t.used before) (w : Written g t before (classes g) out) where
   -- Each cell is what the definition counts.
-  each_cell :
-      (c f : ℕ) → c < length sizes → f < summary_cells →
-      summary_at out c f ≡ get_or (class_record (shape sizes most heaps n) (tables bits spans entries heads used) c) f 0
-  unfolding class_record over_spans pending_slots tally pending_in cached_in row_of class_heap summary_cells
-  each_cell c zero h l = w.of_spans.at c h ∙ t.of_spans.at c h
-  each_cell c (suc zero) h l =
-      w.of_slots.at c h ∙ ap (λ (z : ℕ). z * slots_per_span (slot_size sizes c)) (t.of_spans.at c h)
-  each_cell c (suc (suc zero)) h l = w.of_used.at c h ∙ t.of_used.at c h
+  each_cell : (c f : ℕ) → c < classes g → f < summary_cells → summary_at out c f ≡ get_or (class_record g t c) f 0
+  unfolding class_record over_spans pending_slots tally pending_in cached_in summary_cells
+  each_cell c zero h l = w.of_spans.at c h ∙ o.of_spans.at c h
+  each_cell c (suc zero) h l = w.of_slots.at c h ∙ ap (λ (z : ℕ). z * slots_per_span (slot_size g.sizes c)) (o.of_spans.at c h)
+  each_cell c (suc (suc zero)) h l = w.of_used.at c h ∙ o.of_used.at c h
   each_cell c (suc (suc (suc zero))) h l = w.of_cached.at c h
-  each_cell c (suc (suc (suc (suc zero)))) h l = w.of_pending.at c h ∙ t.of_pending.at c h
+  each_cell c (suc (suc (suc (suc zero)))) h l = w.of_pending.at c h ∙ o.of_pending.at c h
   each_cell c (suc (suc (suc (suc (suc f))))) h l = absurd (let z : ⊥ = omega arith in z)
 
   -- All spans are counted and all classes are written.
-  pub written_all : out ≡ class_records (length sizes) 0 (shape sizes most heaps n) (tables bits spans entries heads used)
-  written_all = records_by_cells (length sizes) (shape sizes most heaps n) (tables bits spans entries heads used) out w.long each_cell
+  pub written_all : out ≡ class_records (classes g) 0 g t
+  written_all = records_by_cells (classes g) g t out w.long each_cell

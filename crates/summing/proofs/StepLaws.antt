@@ -8,15 +8,17 @@ use lib.ListN.{length, set, length-set}
 use Rattle.size_classes.specs.SlotSizes.{slot_size}
 use Rattle.size_classes.specs.Slots.{most_slots, slots_per_span}
 use Rattle.size_classes.proofs.SlotTheorems.{slots_most}
-use Rattle.summing.specs.Tally.{spans_cell, slots_cell, used_cell, cached_cell, pending_cell, summary_cell, summary_at, class_of, occupied_of, pending_in, cached_in, added, span_added, class_written, SpanFits, ClassFits}
+use Rattle.tables.specs.Shape.{Shape}
+use Rattle.tables.specs.Cells.{Tables, class_at, occupied_at}
+use Rattle.summing.specs.Tally.{spans_cell, slots_cell, used_cell, cached_cell, pending_cell, summary_cell, summary_at, pending_in, cached_in, added, span_added, class_written, SpanFits, ClassFits}
 use Rattle.summing.proofs.ColumnLaws.{cell_in, name_in, other_added}
 use Rattle.summing.proofs.TallyLaws.{length_added}
 
 -- ---- one span
 
-module _ {bits spans : List ℕ} {s : ℕ} {out : List ℕ} (o : SpanFits bits spans s out) where
+module _ {t : Tables} {s : ℕ} {out : List ℕ} (o : SpanFits t s out) where
   abbrev own : ℕ
-  own = class_of spans s
+  own = class_at t s
 
   -- There is room for one span more.
   pub fits_spans : {c : ℕ} → c ≡ own → (summary_cell c spans_cell < length out) × (summary_at out c spans_cell + 1 < 2 ^ 64)
@@ -24,7 +26,7 @@ module _ {bits spans : List ℕ} {s : ℕ} {out : List ℕ} (o : SpanFits bits s
 
   -- Then for its occupied slots.
   pub fits_used :
-      {c n : ℕ} {out₁ : List ℕ} → c ≡ own → n ≡ occupied_of spans s → out₁ ≡ added out c spans_cell 1 →
+      {c n : ℕ} {out₁ : List ℕ} → c ≡ own → n ≡ occupied_at t s → out₁ ≡ added out c spans_cell 1 →
       (summary_cell c used_cell < length out₁) × (summary_at out₁ c used_cell + n < 2 ^ 64)
   fits_used e en e₁ =
       rw (
@@ -38,7 +40,7 @@ module _ {bits spans : List ℕ} {s : ℕ} {out : List ℕ} (o : SpanFits bits s
 
   -- Then for its pending slots.
   pub fits_pending :
-      (n : ℕ) {c k : ℕ} {out₁ out₂ : List ℕ} → c ≡ own → k ≡ pending_in bits s 64 → out₁ ≡ added out c spans_cell 1 → out₂ ≡ added out₁ c used_cell n →
+      (n : ℕ) {c k : ℕ} {out₁ out₂ : List ℕ} → c ≡ own → k ≡ pending_in t.bits s 64 → out₁ ≡ added out c spans_cell 1 → out₂ ≡ added out₁ c used_cell n →
       (summary_cell c pending_cell < length out₂) × (summary_at out₂ c pending_cell + k < 2 ^ 64)
   fits_pending n e ek e₁ e₂ =
       rw (
@@ -55,14 +57,14 @@ module _ {bits spans : List ℕ} {s : ℕ} {out : List ℕ} (o : SpanFits bits s
 
 -- The three additions count the span.
 pub span_is_added :
-    (bits spans : List ℕ) (s : ℕ) (out : List ℕ) {c n k : ℕ} {out₁ out₂ out₃ : List ℕ} → c ≡ class_of spans s → n ≡ occupied_of spans s → k ≡ pending_in bits s 64 →
-    out₁ ≡ added out c spans_cell 1 → out₂ ≡ added out₁ c used_cell n → out₃ ≡ added out₂ c pending_cell k → out₃ ≡ span_added bits spans s out
+    (t : Tables) (s : ℕ) (out : List ℕ) {c n k : ℕ} {out₁ out₂ out₃ : List ℕ} → c ≡ class_at t s → n ≡ occupied_at t s → k ≡ pending_in t.bits s 64 →
+    out₁ ≡ added out c spans_cell 1 → out₂ ≡ added out₁ c used_cell n → out₃ ≡ added out₂ c pending_cell k → out₃ ≡ span_added t s out
 unfolding span_added
-span_is_added bits spans s out e en ek e₁ e₂ e₃ = e₃ ∙ rw (e₂, e₁, e, en, ek)
+span_is_added t s out e en ek e₁ e₂ e₃ = e₃ ∙ rw (e₂, e₁, e, en, ek)
 
 -- ---- one class
 
-module _ {sizes heads : List ℕ} {heaps c : ℕ} {out : List ℕ} (o : ClassFits sizes heads heaps c out) where
+module _ {g : Shape} {t : Tables} {c : ℕ} {out : List ℕ} (o : ClassFits g t c out) where
   -- A cell of the class's record is among the records.
   pub class_cell : {f : ℕ} → f ≤ pending_cell → summary_cell c f < length out
   class_cell {f} h = subst (λ (z : ℕ). summary_cell c f < z) (sym o.long) (cell_in o.class (name_in h))
@@ -81,12 +83,12 @@ slots_fit slot {spans} {slots} h e =
 
 -- The two stores write the class.
 pub class_is_written :
-    (sizes heads : List ℕ) (heaps c : ℕ) (out : List ℕ) {slots cached spans : ℕ} {out₁ out₂ : List ℕ} →
-    slots ≡ slots_per_span (slot_size sizes c) →
-    cached ≡ cached_in heads (length sizes) heaps c →
+    (g : Shape) (t : Tables) (c : ℕ) (out : List ℕ) {slots cached spans : ℕ} {out₁ out₂ : List ℕ} →
+    slots ≡ slots_per_span (slot_size g.sizes c) →
+    cached ≡ cached_in g t g.heaps c →
     spans ≡ summary_at out c spans_cell →
     out₁ ≡ set out (summary_cell c slots_cell) (spans * slots) →
     out₂ ≡ set out₁ (summary_cell c cached_cell) cached →
-    out₂ ≡ class_written sizes heads heaps c out
+    out₂ ≡ class_written g t c out
 unfolding class_written
-class_is_written sizes heads heaps c out es ec en e₁ e₂ = e₂ ∙ rw (e₁, es, ec, en)
+class_is_written g t c out es ec en e₁ e₂ = e₂ ∙ rw (e₁, es, ec, en)

@@ -14,9 +14,9 @@ use Rattle.size_classes.specs.SlotSizes.{slot_size}
 use Rattle.size_classes.specs.Slots.{most_slots}
 use Rattle.magazine_layout.specs.Layout.{most_capacity}
 use Rattle.magazine_layout.proofs.LayoutLaws.{capacity_most}
-use Rattle.tables.specs.Shape.{Shape, shape, most_heaps, classes, bitmap_cells, record_cells, row_of, class_heap}
-use Rattle.tables.specs.Cells.{Tables, as_stated, occupied_at}
-use Rattle.tables.specs.Stated.{RightLengths, Stated}
+use Rattle.tables.specs.Shape.{Shape, classes, bitmap_cells, record_cells, class_heap}
+use Rattle.tables.specs.Cells.{Tables, as_stated, occupied_at, count_at}
+use Rattle.tables.specs.Stated.{Stated}
 use Rattle.tables.proofs.StatedLaws.{stated_passed}
 use Rattle.span.specs.State.{is_occupied}
 use Rattle.sound.specs.Sound.{home_of, Sound}
@@ -25,7 +25,7 @@ use Rattle.sound_laws.proofs.SoundTested.{sound_says}
 use Rattle.sound_spans.proofs.SpanWords.{home_most}
 use Rattle.sound_spans.specs.WordSound.{UsedCells}
 use Rattle.calls.specs.Summary.{summary_cells, class_records, summed, summary}
-use Rattle.summing.specs.Tally.{SpansCount, HeadsCount, Countable, count_of}
+use Rattle.summing.specs.Tally.{SpansCount, HeadsCount, Countable}
 
 -- ---- the answers
 
@@ -54,16 +54,6 @@ module _ (g : Shape) (t : Tables) (out : List ℕ) where
 
 -- ---- a sound table can be counted
 
--- What the check of soundness asks of a table as stated.
-pub check_asks :
-    (sizes : List ℕ) (most heaps spans : ℕ) (t : Tables) (r : Bool) → r ≡ as_stated (shape sizes most heaps spans) t → r ≡ true →
-    (heaps ≤ most_heaps) × RightLengths (shape sizes spans heaps spans) t
-check_asks sizes most heaps spans t r e f =
-    let s = stated_passed (shape sizes most heaps spans) t (sym e ∙ f) in (
-      s.shape.few_heaps,
-      record { bits = s.lengths.bits; spans = s.lengths.spans; entries = s.lengths.entries; heads = s.lengths.heads },
-    )
-
 module _ (g : Shape) (t : Tables) (few : g.most ≤ 2 ^ 32) (s : Stated g t) (o : Sound g t) where
   -- No more slots are occupied than a span can have.
   occupied_most : (r : ℕ) → r < t.used → occupied_at t r ≤ most_slots
@@ -81,7 +71,7 @@ module _ (g : Shape) (t : Tables) (few : g.most ≤ 2 ^ 32) (s : Stated g t) (o 
         fields = subst (λ (z : ℕ). t.used * record_cells ≤ z) (sym s.lengths.spans) (mul-le-mul_right record_cells o.within);
       }
 
-  spans_count : SpansCount (classes g) t.bits t.spans t.used
+  spans_count : SpansCount g t
   spans_count =
       record {
         cells = used_cells;
@@ -90,19 +80,19 @@ module _ (g : Shape) (t : Tables) (few : g.most ≤ 2 ^ 32) (s : Stated g t) (o 
         occupied = occupied_most;
       }
 
-  count_most : (h : ℕ) → h < g.heaps → (c : ℕ) → c < classes g → count_of t.heads (classes g) c h ≤ most_capacity
-  unfolding class_heap row_of
+  count_most : (h : ℕ) → h < g.heaps → (c : ℕ) → c < classes g → count_at t (class_heap g h c) ≤ most_capacity
+  unfolding class_heap
   count_most h hh c hc =
       omega (arith, (o.class_heaps h hh c hc).magazine.count, capacity_most (slot_size g.sizes c))
 
-  heads_count : HeadsCount (classes g) t.heads g.heaps
+  heads_count : HeadsCount g t
   heads_count = record { few = s.shape.few_heaps; long = s.lengths.heads; counts = count_most }
 
 -- The tests that the summary makes are enough.
 pub sound_countable :
     (g : Shape) (t : Tables) (out : List ℕ) (r q : Bool) → g.most ≤ 2 ^ 32 → r ≡ as_stated g t → r ≡ true → q ≡ is_sound g t → q ≡ true →
     length out ≡ classes g * summary_cells →
-    Countable g.sizes t.bits t.spans t.heads g.heaps t.used out
+    Countable g t out
 sound_countable g t out r q few e f d n l =
     let s = stated_passed g t (sym e ∙ f) in
     let o : Sound g t = subst (λ (b : Bool). Says b (Sound g t)) (sym d ∙ n) (sound_says g t) in

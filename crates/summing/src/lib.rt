@@ -1,13 +1,15 @@
 // The class summary: one pass over the used spans adds each to the record of its class, then one pass over the classes writes slots and cached blocks.
 #![tactic(auto)]
 
-ghost use Rattle.std.specs.Prelude.{◌≡◌, List, ℕ, ◌+◌, ◌^◌, ◌<◌, ◌≤◌, length, set};
-ghost use Rattle.size_classes.specs.SlotSizes.{Admissible};
-ghost use Rattle.tables.specs.Shape.{shape};
-ghost use Rattle.tables.specs.Cells.{tables as table};
+ghost use Rattle.std.specs.Prelude.{◌≡◌, ◌+◌, ◌^◌, ◌<◌, length, set};
+ghost use Rattle.tables.specs.Shape.{classes};
 ghost use Rattle.span.specs.Room.{WordCells};
+ghost use Rattle.refusals.specs.Numbers.{number_of};
 ghost use Rattle.calls.specs.Summary.{class_records, summed, summary as summarised};
 ghost use Rattle.summing.specs.Tally.{summary_cell, summary_at, pending_in, cached_in, added, span_added, class_written, SpanFits, SpansCount, HeadsCount, ClassFits, ClassesFit, Countable, Tallied, Written};
+
+use refusals::Refusal;
+use tables::{Shape, TablesView};
 
 const CLASS: u64 = 0;
 
@@ -77,112 +79,88 @@ pub fn pending(bits: &[u64], s: u64) -> u64
 }
 
 // Adds span s to the record of its class.
-fn add_span(bits: &[u64], spans: &[u64], s: u64, out: &mut [u64])
-    requires { SpanFits bits.now spans.now s out.old }
-    ensures { out.new ≡ span_added bits.now spans.now s out.old }
+fn add_span(view: &TablesView, s: u64, out: &mut [u64])
+    requires { SpanFits view.now s out.old }
+    ensures { out.new ≡ span_added view.now s out.old }
 {
-    let c = tables::field(spans, s, CLASS);
-    let occupied = tables::field(spans, s, OCCUPIED);
-    let pending = pending(bits, s);
+    let c = tables::field(view.spans, s, CLASS);
+    let occupied = tables::field(view.spans, s, OCCUPIED);
+    let pending = pending(view.bits, s);
     add(out, c, SPANS, 1);
     add(out, c, USED, occupied);
     add(out, c, PENDING, pending);
 }
 
 // Adds each used span to the record of its class.
-fn add_spans(classes: u64, bits: &[u64], spans: &[u64], used: u64, out: &mut [u64])
-    requires spans_count { SpansCount classes bits.now spans.now used }
-    requires tallied { Tallied classes bits.now spans.now 0 out.old }
-    ensures { Tallied classes bits.now spans.now used out.new }
+fn add_spans(shape: &Shape, view: &TablesView, out: &mut [u64])
+    requires spans_count { SpansCount shape.now view.now }
+    requires tallied { Tallied shape.now view.now 0 out.old }
+    ensures { Tallied shape.now view.now view.now.used out.new }
 {
-    for s in 0..used {
-        add_span(bits, spans, s, out);
+    for s in 0..view.used {
+        add_span(view, s, out);
     }
 }
 
 // The cached blocks of class c, over all heaps.
-fn cached(classes: u64, heads: &[u64], heaps: u64, c: u64) -> u64
-    requires heads_count { HeadsCount classes heads.now heaps }
-    requires c_lt_classes { c < classes }
-    ensures { result ≡ cached_in heads.now classes heaps c }
+fn cached(shape: &Shape, view: &TablesView, c: u64) -> u64
+    requires heads_count { HeadsCount shape.now view.now }
+    requires c_lt_classes { c < classes shape.now }
+    ensures { result ≡ cached_in shape.now view.now shape.now.heaps c }
 {
+    let classes = shape.sizes.classes();
     let mut total: u64 = 0;
-    for h in 0..heaps {
-        total += tables::head(heads, h * classes + c, COUNT);
+    for h in 0..shape.heaps {
+        total += tables::head(view.heads, h * classes + c, COUNT);
     }
     total
 }
 
 // Writes the slots and the cached blocks of class c.
-fn write_class(sizes: &[u64], heads: &[u64], heaps: u64, c: u64, out: &mut [u64])
-    requires admissible { Admissible sizes.now }
-    requires class_fits { ClassFits sizes.now heads.now heaps c out.old }
-    ensures { out.new ≡ class_written sizes.now heads.now heaps c out.old }
+fn write_class(shape: &Shape, view: &TablesView, c: u64, out: &mut [u64])
+    requires { ClassFits shape.now view.now c out.old }
+    ensures { out.new ≡ class_written shape.now view.now c out.old }
 {
-    let at = c as usize;
-    let slots = size_classes::slots_per_span(sizes[at]);
-    let cached = cached(sizes.len() as u64, heads, heaps, c);
+    let slots = size_classes::slots_per_span(shape.sizes.slot(c));
+    let cached = cached(shape, view, c);
     let spans = cell(out, c, SPANS);
     put_cell(out, c, SLOTS, spans * slots);
     put_cell(out, c, CACHED, cached);
 }
 
 // Writes the slots and the cached blocks of every class.
-fn write_classes(sizes: &[u64], heads: &[u64], heaps: u64, out: &mut [u64])
-    requires admissible { Admissible sizes.now }
-    requires classes_fit { ClassesFit sizes.now heads.now heaps out.old }
-    ensures { Written sizes.now heads.now heaps out.old (length sizes.now) out.new }
+fn write_classes(shape: &Shape, view: &TablesView, out: &mut [u64])
+    requires { ClassesFit shape.now view.now out.old }
+    ensures { Written shape.now view.now out.old (classes shape.now) out.new }
 {
-    for c in 0..sizes.len() as u64 {
-        write_class(sizes, heads, heaps, c, out);
+    for c in 0..shape.sizes.classes() {
+        write_class(shape, view, c, out);
     }
 }
 
 // Fills the records of all classes.
-pub fn class_records(
-    sizes: &[u64],
-    bits: &[u64],
-    spans: &[u64],
-    heads: &[u64],
-    heaps: u64,
-    used: u64,
-    out: &mut [u64],
-)
-    requires admissible { Admissible sizes.now }
-    requires countable { Countable sizes.now bits.now spans.now heads.now heaps used out.old }
-    ensures { (e : List ℕ) (most n : ℕ) → out.new ≡ class_records (length sizes.now) 0 (shape sizes.now most heaps n) (table bits.now spans.now e heads.now used) }
+pub fn class_records(shape: &Shape, view: &TablesView, out: &mut [u64])
+    requires { Countable shape.now view.now out.old }
+    ensures { out.new ≡ class_records (classes shape.now) 0 shape.now view.now }
 {
     fresh::zero(out);
-    add_spans(sizes.len() as u64, bits, spans, used, out);
-    write_classes(sizes, heads, heaps, out);
+    add_spans(shape, view, out);
+    write_classes(shape, view, out);
 }
 
-// The class summary, or a refusal with 1 or 2 that leaves the records.
-pub fn summary(
-    sizes: &[u64],
-    most: u64,
-    heaps: u64,
-    spans: u64,
-    bits: &[u64],
-    records: &[u64],
-    entries: &[u64],
-    heads: &[u64],
-    used: u64,
-    out: &mut [u64],
-) -> u64
-    requires admissible { Admissible sizes.now }
-    requires most_bound { most ≤ 2 ^ 32 }
-    ensures { summed result out.new ≡ summarised (shape sizes.now most heaps spans) (table bits.now records.now entries.now heads.now used) out.old }
+// The class summary, or a refusal that leaves the records.
+pub fn summary(shape: &Shape, view: &TablesView, out: &mut [u64]) -> Result<(), Refusal>
+    ensures { summed (number_of result) out.new ≡ summarised shape.now view.now out.old }
 {
-    if !fresh::as_stated(sizes, most, heaps, spans, bits, records, entries, heads) {
-        return 1;
+    if !fresh::as_stated(shape, view) {
+        return Err(Refusal::NotAsStated);
     }
-    if out.len() as u64 != sizes.len() as u64 * SUMMARY_CELLS {
-        return 1;
+    if out.len() as u64 != shape.sizes.classes() * SUMMARY_CELLS {
+        return Err(Refusal::NotAsStated);
     }
-    if !sound_check::is_sound(sizes, bits, records, entries, heads, heaps, spans, used) {
-        return 2;
+    if !sound_check::is_sound(shape, view) {
+        return Err(Refusal::Unsound);
     }
-    class_records(sizes, bits, records, heads, heaps, used, out);
-    0
+    class_records(shape, view, out);
+    Ok(())
 }

@@ -20,17 +20,3 @@ cell-requires-3 c = before_last _ _ (omega arith) c.requires
 
 pub cell-requires-4 : goal.cell-requires-4
 cell-requires-4 c = before_last _ _ (omega arith) c.requires
-
-pub cell-requires-5 : goal.cell-requires-5
-cell-requires-5 c = before_last _ _ (omega arith) c.requires
-
-pub returns : goal.returns
-returns c =
-    λ i.
-    record {
-      spans = c.cell.ensures i;
-      slots = c.cell-2.ensures i;
-      used = c.cell-3.ensures i;
-      cached = c.cell-4.ensures i;
-      pending = c.cell-5.ensures i;
-    }

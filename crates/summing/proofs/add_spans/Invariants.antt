@@ -3,4 +3,4 @@ use Rattle.summing.specs.Tally.{Tallied}
 use Rattle.summing.proofs.add_spans.Given as goal
 
 abbrev pub invariant-loop-s : goal.invariant-loop-s
-invariant-loop-s l = Tallied l.classes l.bits l.spans l.s l.out
+invariant-loop-s l = Tallied l.shape l.view l.s l.out

@@ -3,4 +3,7 @@ use Rattle.summing.proofs.RecordLaws.{written_more}
 use Rattle.summing.proofs.write_classes.Goals as goal
 
 pub loop-c-preserved : goal.loop-c-preserved
-loop-c-preserved c = rw c.write_class.ensures (written_more c.loop-c-test.true c.loop-c.invariant)
+loop-c-preserved c =
+    let passed = rw (← c.shape.view_is) at c.loop-c.invariant in
+    rw (← c.shape.view_is, c.write_class.ensures)
+    (rw (← c.shape.view_is) (written_more (rw c.classes-c-end.ensures.count at c.loop-c-test.true) passed))

@@ -3,4 +3,4 @@ use Rattle.summing.specs.Tally.{Written}
 use Rattle.summing.proofs.write_classes.Given as goal
 
 abbrev pub invariant-loop-c : goal.invariant-loop-c
-invariant-loop-c l = Written l.sizes l.heads l.heaps l.initial.out l.c l.out
+invariant-loop-c l = Written l.shape l.view l.initial.out l.c l.out

@@ -1,7 +1,0 @@
--- The loop of `laggersten_summary`: the first i records are written. Assumes nothing.
-use Rattle.std.proofs.Common.{◌≡◌}
-use Rattle.summary_records.specs.Structured.{filled}
-use Rattle.summary_records.proofs.laggersten_summary.Given as goal
-
-abbrev pub invariant-loop-i : goal.invariant-loop-i
-invariant-loop-i l = l.record-items ≡ filled l.s.cells l.initial.record-items l.i
