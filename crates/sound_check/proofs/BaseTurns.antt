@@ -1,9 +1,11 @@
 -- The base of a row's magazine: after each row the next one begins where its capacity ends. Assumes nothing.
 use mathlib.Core.Path.{◌≡◌, sym, ap, ap₂, ◌∙◌}
+use mathlib.Core.List.{List}
 use Prim.Native.Nat.{ℕ, ◌+◌, ◌*◌, ◌/◌, ◌%◌, ◌<◌}
 use native.Mathlib.Nat.{mod-lt, div-add-mod'}
 use native.Mathlib.Decide.{dec_lt}
 use native.Mathlib.Omega.{arith}
+use lib.ListN.{length}
 use lib.Arith.{digits_div, digits_mod}
 use Rattle.size_classes.specs.SlotSizes.{Admissible, slot_size}
 use Rattle.magazine_layout.specs.Layout.{capacity_for, magazine_offset, entries_per_heap}
@@ -68,19 +70,24 @@ pub record Row (g : Shape) (r : ℕ) (k : ClassHeap) : Type 0 where
   pub here : k ≡ class_at_row g r
   pub heap : r / classes g < g.heaps
   pub class : r % classes g < classes g
+  pub below : r < g.heaps * classes g
 
 pub row_here :
-    (g : Shape) {n r base : ℕ} {k : ClassHeap} → n ≡ classes g → Admissible g.sizes → base ≡ base_at g r → r < g.heaps * n →
-    ((most heaps m : ℕ) → r ≡ row_of (shape g.sizes most heaps m) (r / n) (r % n) → base ≡ base_of (shape g.sizes most heaps m) (r / n) (r % n) →
-    k ≡ class_heap (shape g.sizes most heaps m) (r / n) (r % n)) →
+    {sizes : List ℕ} {most heaps spans n r base : ℕ} {g : Shape} {k : ClassHeap} → shape sizes most heaps spans ≡ g → n ≡ length sizes →
+    Admissible sizes → base ≡ base_at g r → r < heaps * n →
+    ((more others m : ℕ) → r ≡ row_of (shape sizes more others m) (r / n) (r % n) → base ≡ base_of (shape sizes more others m) (r / n) (r % n) →
+    k ≡ class_heap (shape sizes more others m) (r / n) (r % n)) →
     Row g r k
-row_here g {r = r} e a b l f =
-    record {
+row_here {sizes} {most} {heaps} {spans} {r = r} e q a b l f =
+    let below = rw q at l in
+    rw (← e)
+    (record {
       sizes = a;
-      here = (rw e at f) g.most g.heaps g.spans (row_at g r) b;
-      heap = row_heap a.some (rw e at l);
+      here = (rw q at f) most heaps spans (row_at (shape sizes most heaps spans) r) (rw (← e) at b);
+      heap = row_heap a.some below;
       class = mod-lt r a.some;
-    }
+      below = below;
+    })
 
 -- The capacity there.
 pub row_capacity : {g : Shape} {r : ℕ} {k : ClassHeap} → Row g r k → k.capacity ≡ capacity_for (slot_size g.sizes (r % classes g))

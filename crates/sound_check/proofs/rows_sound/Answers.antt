@@ -7,7 +7,7 @@ use lib.ListN.{length}
 use Rattle.size_classes.specs.SlotSizes.{Admissible, most_classes, slot_size}
 use Rattle.magazine_layout.specs.Layout.{most_capacity, capacity_for, entries_per_heap}
 use Rattle.tables.specs.declared.ClassHeap.{ClassHeap}
-use Rattle.tables.specs.Shape.{Shape, shape, most_heaps, classes}
+use Rattle.tables.specs.Shape.{Shape, most_heaps, classes}
 use Rattle.tables.specs.Cells.{Tables}
 use Rattle.tables.proofs.MagazineCells.{rows_small, bases_small, base_within}
 use Rattle.magazine.specs.Room.{Counted}
@@ -15,6 +15,7 @@ use Rattle.sound.specs.Sound.{MagazineSound}
 use Rattle.sound_spans.proofs.TestLaws.{granted, refuted, says_eqb}
 use Rattle.sound_lists.specs.Walked.{ClassLists, spans_in, ClassCells}
 use Rattle.sound_lists.proofs.WalkLaws.{used_small}
+use Rattle.sound_check.specs.Joined.{Passed}
 use Rattle.sound_check.proofs.BaseTurns.{base_at, base_first, base_next, Row, row_here, row_capacity}
 use Rattle.sound_check.proofs.RowTurns.{fields_used, heads_there, entries_there, passed_none, passed_few, passed_more, all_rows, rows_all}
 use Rattle.sound_check.proofs.rows_sound.Goals as goal
@@ -35,6 +36,13 @@ base_fits {g} {r} few w eb =
     base_within g w.heap w.class in
     omega (arith, eb, row_capacity w, few_entries w.sizes few)
 
+-- A row whose lists and magazine are right is passed.
+row_passed :
+    {g : Shape} {t : Tables} {r total met : ℕ} {k : ClassHeap} → Row g r k → Passed g t r total → ClassLists t k × (met ≡ spans_in t k) →
+    MagazineSound t k → Passed g t (r + 1) (total + met)
+row_passed {t = t} {met = met} w p l m =
+    passed_more _ _ p (subst (λ (k : ClassHeap). ClassLists t k × (met ≡ spans_in t k)) w.here l) (subst (MagazineSound t) w.here m)
+
 pub overflow_mul-rows : goal.overflow_mul-rows
 overflow_mul-rows c =
     let s = c.classes-classes.ensures in
@@ -48,67 +56,59 @@ loop-r-init c =
 
 pub class_met-requires-clause-class_cells : goal.class_met-requires-clause-class_cells
 class_met-requires-clause-class_cells c =
-    let i = c.shape.inside in
-    let row : Row c.args.shape.now c.loop-r.r c.class_at-k.result =
-    rw (← c.shape.view_is) (row_here (shape i.sizes.now i.most i.heaps i.spans) c.classes-classes.ensures.count c.classes-classes.ensures.admissible (rw (← c.shape.view_is) at c.loop-r.invariant.begins) c.loop-r-test.true c.class_at-k.ensures) in
+    let s = c.classes-classes.ensures in
+    let row = row_here c.shape.view_is s.count s.admissible c.loop-r.invariant.begins c.loop-r-test.true c.class_at-k.ensures in
     subst (ClassCells c.args.view.now.heads) (sym row.here) (heads_there c.requires row.heap row.class)
 
 pub returns-in_default-clause-rows : goal.returns-in_default-clause-rows
 returns-in_default-clause-rows c w =
-    let i = c.shape.inside in
-    let row : Row c.args.shape.now c.loop-r.r c.class_at-k.result =
-    rw (← c.shape.view_is) (row_here (shape i.sizes.now i.most i.heaps i.spans) c.classes-classes.ensures.count c.classes-classes.ensures.admissible (rw (← c.shape.view_is) at c.loop-r.invariant.begins) c.loop-r-test.true c.class_at-k.ensures) in
-    c.in_default.ensures (subst (ClassLists c.args.view.now) (sym row.here) (w.each c.loop-r.r (rw (← c.shape.view_is) (rw c.classes-classes.ensures.count at c.loop-r-test.true))).lists)
+    let s = c.classes-classes.ensures in
+    let row = row_here c.shape.view_is s.count s.admissible c.loop-r.invariant.begins c.loop-r-test.true c.class_at-k.ensures in
+    c.in_default.ensures (subst (ClassLists c.args.view.now) (sym row.here) (w.each c.loop-r.r row.below).lists)
 
 pub magazine_sound-requires-clause-counted : goal.magazine_sound-requires-clause-counted
 magazine_sound-requires-clause-counted c =
-    let i = c.shape.inside in
-    let row : Row c.args.shape.now c.loop-r.r c.class_at-k.result =
-    rw (← c.shape.view_is) (row_here (shape i.sizes.now i.most i.heaps i.spans) c.classes-classes.ensures.count c.classes-classes.ensures.admissible (rw (← c.shape.view_is) at c.loop-r.invariant.begins) c.loop-r-test.true c.class_at-k.ensures) in
+    let s = c.classes-classes.ensures in
+    let row = row_here c.shape.view_is s.count s.admissible c.loop-r.invariant.begins c.loop-r-test.true c.class_at-k.ensures in
     subst (Counted c.args.view.now.heads) (sym row.here) ((heads_there c.requires row.heap row.class).rows _ (omega arith))
 
 pub magazine_sound-requires-clause-capacity_in_bounds : goal.magazine_sound-requires-clause-capacity_in_bounds
 magazine_sound-requires-clause-capacity_in_bounds c =
-    let i = c.shape.inside in
-    let row : Row c.args.shape.now c.loop-r.r c.class_at-k.result =
-    rw (← c.shape.view_is) (row_here (shape i.sizes.now i.most i.heaps i.spans) c.classes-classes.ensures.count c.classes-classes.ensures.admissible (rw (← c.shape.view_is) at c.loop-r.invariant.begins) c.loop-r-test.true c.class_at-k.ensures) in
+    let s = c.classes-classes.ensures in
+    let row = row_here c.shape.view_is s.count s.admissible c.loop-r.invariant.begins c.loop-r-test.true c.class_at-k.ensures in
     subst (λ (k : ClassHeap). k.base + k.capacity ≤ length c.args.view.now.entries) (sym row.here) (entries_there c.requires row.heap row.class)
 
 pub returns-then-not-magazine_sound-clause-rows : goal.returns-then-not-magazine_sound-clause-rows
 returns-then-not-magazine_sound-clause-rows c w =
-    let i = c.shape.inside in
-    let row : Row c.args.shape.now c.loop-r.r c.class_at-k.result =
-    rw (← c.shape.view_is) (row_here (shape i.sizes.now i.most i.heaps i.spans) c.classes-classes.ensures.count c.classes-classes.ensures.admissible (rw (← c.shape.view_is) at c.loop-r.invariant.begins) c.loop-r-test.true c.class_at-k.ensures) in
+    let s = c.classes-classes.ensures in
+    let row = row_here c.shape.view_is s.count s.admissible c.loop-r.invariant.begins c.loop-r-test.true c.class_at-k.ensures in
     refuted c.magazine_sound.result c.magazine_sound.ensures c.if-not-magazine_sound.true
-    (subst (MagazineSound c.args.view.now) (sym row.here) (w.each c.loop-r.r (rw (← c.shape.view_is) (rw c.classes-classes.ensures.count at c.loop-r-test.true))).magazine)
+    (subst (MagazineSound c.args.view.now) (sym row.here) (w.each c.loop-r.r row.below).magazine)
 
 pub overflow_add-total : goal.overflow_add-total
 overflow_add-total c =
-    let i = c.shape.inside in
-    let row : Row c.args.shape.now c.loop-r.r c.class_at-k.result =
-    rw (← c.shape.view_is) (row_here (shape i.sizes.now i.most i.heaps i.spans) c.classes-classes.ensures.count c.classes-classes.ensures.admissible (rw (← c.shape.view_is) at c.loop-r.invariant.begins) c.loop-r-test.true c.class_at-k.ensures) in
+    let s = c.classes-classes.ensures in
+    let row = row_here c.shape.view_is s.count s.admissible c.loop-r.invariant.begins c.loop-r-test.true c.class_at-k.ensures in
     omega (
       arith,
-      passed_few _ _ (passed_more _ _ c.loop-r.invariant.passed (subst (λ (k : ClassHeap). ClassLists c.args.view.now k × (c.in-Some.met ≡ spans_in c.args.view.now k)) row.here c.in-Some.ensures) (subst (MagazineSound c.args.view.now) row.here (granted c.magazine_sound.result c.magazine_sound.ensures c.if-not-magazine_sound.false))),
+      passed_few _ _ (row_passed row c.loop-r.invariant.passed c.in-Some.ensures (granted c.magazine_sound.result c.magazine_sound.ensures c.if-not-magazine_sound.false)),
       ap (λ (z : Tables). z.used) c.view.view_is,
       rw (← c.view.view_is) at (used_small (fields_used c.requires)),
     )
 
 pub overflow_add-base : goal.overflow_add-base
 overflow_add-base c =
-    let i = c.shape.inside in
-    let row : Row c.args.shape.now c.loop-r.r c.class_at-k.result =
-    rw (← c.shape.view_is) (row_here (shape i.sizes.now i.most i.heaps i.spans) c.classes-classes.ensures.count c.classes-classes.ensures.admissible (rw (← c.shape.view_is) at c.loop-r.invariant.begins) c.loop-r-test.true c.class_at-k.ensures) in
+    let s = c.classes-classes.ensures in
+    let row = row_here c.shape.view_is s.count s.admissible c.loop-r.invariant.begins c.loop-r-test.true c.class_at-k.ensures in
     record { fits = base_fits c.requires.few row c.loop-r.invariant.begins }
 
 pub loop-r-preserved : goal.loop-r-preserved
 loop-r-preserved c =
-    let i = c.shape.inside in
-    let row : Row c.args.shape.now c.loop-r.r c.class_at-k.result =
-    rw (← c.shape.view_is) (row_here (shape i.sizes.now i.most i.heaps i.spans) c.classes-classes.ensures.count c.classes-classes.ensures.admissible (rw (← c.shape.view_is) at c.loop-r.invariant.begins) c.loop-r-test.true c.class_at-k.ensures) in
+    let s = c.classes-classes.ensures in
+    let row = row_here c.shape.view_is s.count s.admissible c.loop-r.invariant.begins c.loop-r-test.true c.class_at-k.ensures in
     record {
       begins = ap₂ ◌+◌ c.loop-r.invariant.begins (row_capacity row) ∙ base_next c.args.shape.now row.sizes.some c.loop-r.r;
-      passed = passed_more _ _ c.loop-r.invariant.passed (subst (λ (k : ClassHeap). ClassLists c.args.view.now k × (c.in-Some.met ≡ spans_in c.args.view.now k)) row.here c.in-Some.ensures) (subst (MagazineSound c.args.view.now) row.here (granted c.magazine_sound.result c.magazine_sound.ensures c.if-not-magazine_sound.false));
+      passed = row_passed row c.loop-r.invariant.passed c.in-Some.ensures (granted c.magazine_sound.result c.magazine_sound.ensures c.if-not-magazine_sound.false);
     }
 
 pub returns-clause-rows : goal.returns-clause-rows

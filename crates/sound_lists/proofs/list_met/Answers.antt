@@ -2,17 +2,11 @@
 use mathlib.Core.Path.{◌≡◌, sym, ap, subst}
 use Prim.Native.Nat.{◌+◌, ◌-◌}
 use native.Mathlib.Omega.{arith}
-use Rattle.tables.specs.Cells.{Tables, head_at, next_at}
+use Rattle.tables.specs.Cells.{Tables, next_at}
 use Rattle.span.proofs.CellsThere.{field_there}
 use Rattle.sound_spans.proofs.TestLaws.{granted, refuted}
-use Rattle.sound_lists.proofs.WalkLaws.{record_there, Reach, start, end, step, fits, endless}
+use Rattle.sound_lists.proofs.WalkLaws.{record_there, Reach, end, step, fits, endless}
 use Rattle.sound_lists.proofs.list_met.Goals as goal
-
-pub loop-x-init : goal.loop-x-init
-loop-x-init c =
-    let a = c.args in
-    let here : c.head-x.result ≡ head_at a.view.now a.k a.f = rw (← c.view.view_is) c.head-x.ensures in
-    subst (Reach a.view.now a.k a.f a.low a.high 0 0) (sym here) (start a.view.now a.k a.f a.low a.high)
 
 pub returns-then-met-view : goal.returns-then-met-view
 returns-then-met-view c = endless _ _ _ _ _ c.loop-x.invariant c.loop-x-test.true (rw (← c.view.view_is) c.if-met-view.true)
