@@ -1,12 +1,9 @@
 -- `linked_list::push` meets its contract: its stores are those of the definition. Assumes nothing.
 use native.Mathlib.Omega.{arith}
 use Rattle.tables.proofs.PlaceLaws.{place_le}
-use Rattle.linked_list.proofs.ReachLaws.{head_here, field_here, linked_here, few_spans_lem}
+use Rattle.linked_list.proofs.ReachLaws.{field_here, linked_here, few_spans_lem}
 use Rattle.linked_list.proofs.StoreLaws.{push_made}
 use Rattle.linked_list.proofs.push.Goals as goal
-
-pub front-old-requires : goal.front-old-requires
-front-old-requires c = let p = c.requires in head_here p.1 (place_le c.args.list)
 
 pub put_links-requires : goal.put_links-requires
 put_links-requires c =
@@ -30,10 +27,6 @@ pub overflow_add-s-2 : goal.overflow_add-s-2
 overflow_add-s-2 c =
     let p = c.requires in
     omega (arith, few_spans_lem p.1, p.2)
-
-pub set_front-requires : goal.set_front-requires
-set_front-requires c =
-    omega (arith, head_here c.requires.1 (place_le c.args.list))
 
 pub returns : goal.returns
 returns c b e u =

@@ -1,7 +1,6 @@
 -- `linked_list::remove` meets its contract: its stores are those of the definition. Assumes nothing.
 use native.Mathlib.Omega.{arith}
-use Rattle.tables.proofs.PlaceLaws.{place_le}
-use Rattle.linked_list.proofs.ReachLaws.{head_here, field_here, linked_here}
+use Rattle.linked_list.proofs.ReachLaws.{field_here, linked_here}
 use Rattle.linked_list.proofs.StoreLaws.{remove_made}
 use Rattle.linked_list.proofs.remove.Goals as goal
 
@@ -10,9 +9,6 @@ field-previous-requires c = let p = c.requires in field_here p.1 p.2 (omega arit
 
 pub field-next-requires : goal.field-next-requires
 field-next-requires c = let p = c.requires in field_here p.1 p.2 (omega arith)
-
-pub put_front-requires : goal.put_front-requires
-put_front-requires c = let p = c.requires in head_here p.1 (place_le c.args.list)
 
 pub put_linked-requires : goal.put_linked-requires
 put_linked-requires c =

@@ -1,16 +1,10 @@
 -- `placing::place` meets its contract: its two tests in turn. Assumes nothing.
 use mathlib.Core.Path.{sym, ◌∙◌}
-use Rattle.placing.proofs.PlacingMade.{cells_here, place_empty, place_full, place_partial}
+use Rattle.placing.proofs.PlacingMade.{place_empty, place_full, place_partial}
 use Rattle.placing.proofs.place.Goals as goal
-
-pub is_empty-requires : goal.is_empty-requires
-is_empty-requires c = cells_here c.requires.1 c.requires.2
 
 pub returns-then-is_empty : goal.returns-then-is_empty
 returns-then-is_empty c = λ b e u. place_empty _ _ _ _ (sym (c.is_empty.ensures b e c.args.heads.now u) ∙ c.if-is_empty.true) (c.release_empty.ensures b e u)
-
-pub is_full-requires : goal.is_full-requires
-is_full-requires c = cells_here c.requires.1 c.requires.2
 
 pub returns-then-is_full : goal.returns-then-is_full
 returns-then-is_full c =
