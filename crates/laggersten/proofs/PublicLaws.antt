@@ -1,5 +1,5 @@
 -- A public call by the number of its table: a refusal, or the call on a sound table. Assumes nothing.
-use mathlib.Core.Path.{◌≡◌, sym, ap, subst, ◌∙◌}
+use mathlib.Core.Path.{◌≡◌, refl, sym, ap, subst, ◌∙◌}
 use mathlib.Core.Bool.{Bool, true, false}
 use mathlib.Core.List.{List}
 use mathlib.Core.Logic.{⊎_elim}
@@ -53,11 +53,11 @@ module _ (g : Shape) (t : Tables) (o : Outcome) (n : ℕ) (e : n ≡ sound_numbe
   guard_passes z = let w = zero_means g t (sym e ∙ z) in rw (w.0, w.1)
 
 -- A table of the base shape with number 0 is one that the calls on sound tables ask for.
-pub sound_lent : (heaps spans : ℕ) (t : Tables) (n : ℕ) → n ≡ sound_number (base_shape heaps spans) t → n ≡ 0 → Lent (base_shape heaps spans) t
+pub sound_lent : (heaps spans : ℕ) (t : Tables) → 0 ≡ sound_number (base_shape heaps spans) t → Lent (base_shape heaps spans) t
 unfolding most_spans most_slots
-sound_lent heaps spans t n e z =
+sound_lent heaps spans t e =
     let g = base_shape heaps spans in
-    let w = zero_means g t (sym e ∙ z) in
+    let w = zero_means g t (sym e) in
     record {
       sizes = slot_sizes_admissible;
       stated = w.0;
@@ -65,49 +65,45 @@ sound_lent heaps spans t n e z =
       few = omega (arith, (stated_passed g t w.0).shape.few_spans);
     }
 
--- The same by a list of slot sizes that is 01's.
-pub lent_by : {heaps spans : ℕ} {t : Tables} {l : List ℕ} → l ≡ slot_sizes → Lent (base_shape heaps spans) t → Lent (shape l most_spans heaps spans) t
-lent_by e x = rw e x
-
 -- ---- the calls, by that number
 
-module _ (heaps spans : ℕ) (t : Tables) (n : ℕ) (e : n ≡ sound_number (base_shape heaps spans) t) where
+module _ (heaps spans : ℕ) (t : Tables) where
   pub allocate_refused :
-      (heap size alignment : ℕ) (ws : List ℕ) (r : Answer) → r ≡ refusal n → (n ≡ 0 → ⊥) →
-      ended r t ≡ allocate (base_shape heaps spans) t heap size alignment ws
+      (n : ℕ) → n ≡ sound_number (base_shape heaps spans) t → (heap size alignment : ℕ) (ws : List ℕ) → (n ≡ 0 → ⊥) →
+      refused n t ≡ allocate (base_shape heaps spans) t heap size alignment ws
   unfolding allocate
-  allocate_refused heap size alignment ws r a z = ap (λ (x : Answer). ended x t) a ∙ guard_refuses (base_shape heaps spans) t _ n e z
+  allocate_refused n e heap size alignment ws z = guard_refuses (base_shape heaps spans) t _ n e z
 
   pub allocate_passed :
-      (heap size alignment : ℕ) (ws : List ℕ) (o : Outcome) → n ≡ 0 → o ≡ allocate_sound (base_shape heaps spans) t heap size alignment ws →
-      o ≡ allocate (base_shape heaps spans) t heap size alignment ws
+      (heap size alignment : ℕ) (ws : List ℕ) (o : Outcome) → 0 ≡ sound_number (base_shape heaps spans) t →
+      o ≡ allocate_sound (base_shape heaps spans) t heap size alignment ws → o ≡ allocate (base_shape heaps spans) t heap size alignment ws
   unfolding allocate
-  allocate_passed heap size alignment ws o z a = a ∙ guard_passes (base_shape heaps spans) t _ n e z
+  allocate_passed heap size alignment ws o e a = a ∙ guard_passes (base_shape heaps spans) t _ 0 e refl
 
   pub free_refused :
-      (heap s offset : ℕ) (r : Answer) → r ≡ refusal n → (n ≡ 0 → ⊥) → ended r t ≡ free (base_shape heaps spans) t heap s offset
+      (n : ℕ) → n ≡ sound_number (base_shape heaps spans) t → (heap s offset : ℕ) → (n ≡ 0 → ⊥) →
+      refused n t ≡ free (base_shape heaps spans) t heap s offset
   unfolding free
-  free_refused heap s offset r a z = ap (λ (x : Answer). ended x t) a ∙ guard_refuses (base_shape heaps spans) t _ n e z
+  free_refused n e heap s offset z = guard_refuses (base_shape heaps spans) t _ n e z
 
   pub free_passed :
-      (heap s offset : ℕ) (o : Outcome) → n ≡ 0 → o ≡ free_sound (base_shape heaps spans) t heap s offset →
-      o ≡ free (base_shape heaps spans) t heap s offset
+      (heap s offset : ℕ) (o : Outcome) → 0 ≡ sound_number (base_shape heaps spans) t →
+      o ≡ free_sound (base_shape heaps spans) t heap s offset → o ≡ free (base_shape heaps spans) t heap s offset
   unfolding free
-  free_passed heap s offset o z a = a ∙ guard_passes (base_shape heaps spans) t _ n e z
+  free_passed heap s offset o e a = a ∙ guard_passes (base_shape heaps spans) t _ 0 e refl
 
--- The number by a list of slot sizes that is 01's.
-pub by_sizes :
-    (heaps spans : ℕ) (t : Tables) (l : List ℕ) (n : ℕ) → l ≡ slot_sizes → n ≡ sound_number (shape l 1024 heaps spans) t →
-    n ≡ sound_number (base_shape heaps spans) t
-unfolding most_spans
-by_sizes heaps spans t l n e s = s ∙ ap (λ (m : List ℕ). sound_number (shape m 1024 heaps spans) t) e
+  -- The number, and lengths as stated, of a view of the table, by a list of slot sizes that is 01's.
+  pub by_view :
+      {l m : List ℕ} {v : Tables} (n : ℕ) → l ≡ slot_sizes → m ≡ l → v ≡ t → n ≡ sound_number (shape m 1024 heaps spans) v →
+      n ≡ sound_number (base_shape heaps spans) t
+  unfolding most_spans
+  by_view n e f g s = rw (f, e, g) at s
 
--- The same of lengths as stated.
-pub stated_by :
-    (heaps spans : ℕ) (t : Tables) (l : List ℕ) (r : Bool) → l ≡ slot_sizes → r ≡ as_stated (shape l 1024 heaps spans) t →
-    r ≡ as_stated (base_shape heaps spans) t
-unfolding most_spans
-stated_by heaps spans t l r e s = s ∙ ap (λ (m : List ℕ). as_stated (shape m 1024 heaps spans) t) e
+  pub stated_by :
+      {l m : List ℕ} {v : Tables} (r : Bool) → l ≡ slot_sizes → m ≡ l → v ≡ t → r ≡ as_stated (shape m 1024 heaps spans) v →
+      r ≡ as_stated (base_shape heaps spans) t
+  unfolding most_spans
+  stated_by r e f g s = rw (f, e, g) at s
 
 -- ---- a batch, by its tests
 
@@ -132,11 +128,12 @@ module _ (heaps spans : ℕ) (t : Tables) (bytes answers : List ℕ) where
           (λ d. ap (λ (m : ℕ). batched m answers t) (e ∙ sym (found_unsound (base_shape heaps spans) t stated d)) ∙ as_two d)
           (tested (is_sound (base_shape heaps spans) t))
 
+    module _ (whole : whole_records bytes answers ≡ true) where
       pub batch_passed :
-          (b : Batched) → n ≡ 0 → b ≡ batch_from (length bytes / record_bytes) 0 (base_shape heaps spans) t bytes answers →
-          b ≡ batch (base_shape heaps spans) t bytes answers
+          0 ≡ sound_number (base_shape heaps spans) t → (b : Batched) →
+          b ≡ batch_from (length bytes / record_bytes) 0 (base_shape heaps spans) t bytes answers → b ≡ batch (base_shape heaps spans) t bytes answers
       unfolding batch
-      batch_passed b z a = let w = zero_means (base_shape heaps spans) t (sym e ∙ z) in rw (stated, whole, w.1) a
+      batch_passed e b a = let w = zero_means (base_shape heaps spans) t (sym e) in rw (stated, whole, w.1) a
 
 -- Whole records have room for their answers.
 pub whole_fits : (bytes answers : List ℕ) → whole_records bytes answers ≡ true → length bytes / record_bytes * answer_cells ≤ length answers

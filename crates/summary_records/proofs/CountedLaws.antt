@@ -10,8 +10,9 @@ use borrow.Author.Tests.{eq-eqb, ne_eqb, eqb-true}
 use Rattle.std.specs.Prelude.{Result, Ok, Err}
 use Rattle.laws.proofs.SomeLaws.{and_both}
 use Rattle.refusals.specs.declared.Refusal.{Refusal}
-use Rattle.refusals.specs.declared.Refusal.TheVariants.{NotAsStated, Unsound, NoSuchHeap, TooFewWords, TooLarge, Exhausted, NoSuchSlot, NotOut, Malformed, NotWhole}
+use Rattle.refusals.specs.declared.Refusal.TheVariants.{NotAsStated, Unsound}
 use Rattle.refusals.specs.Numbers.{number}
+use Rattle.refusals.proofs.NumberLaws.{number_some, number_known}
 use Rattle.size_classes.specs.SlotSizes.{slot_sizes, rising, groups}
 use Rattle.tables.specs.Shape.{Shape, base_shape, classes}
 use Rattle.tables.specs.Cells.{Tables, as_stated}
@@ -25,39 +26,6 @@ use Rattle.summary_records.specs.Structured.{Structured, summary_structs, record
 use Rattle.summary_records.specs.Counting.{base_classes, counted_of}
 use Rattle.summary_records.proofs.FilledRecords.{filled_all}
 use Rattle.summary_records.proofs.NamedRecords.{table_structs}
-
--- ---- a refusal is known by its number
-
-refusal_of : ℕ → Refusal
-refusal_of n =
-    cond (eqb n 1) NotAsStated
-    (cond (eqb n 2) Unsound
-    (cond (eqb n 3) NoSuchHeap
-    (cond (eqb n 4) TooFewWords
-    (cond (eqb n 5) TooLarge (cond (eqb n 6) Exhausted (cond (eqb n 7) NoSuchSlot (cond (eqb n 8) NotOut (cond (eqb n 9) Malformed NotWhole))))))))
-
-refusal_back : (e : Refusal) → refusal_of (number e) ≡ e
-unfolding refusal_of
-refusal_back NotAsStated = refl
-refusal_back Unsound = refl
-refusal_back NoSuchHeap = refl
-refusal_back TooFewWords = refl
-refusal_back TooLarge = refl
-refusal_back Exhausted = refl
-refusal_back NoSuchSlot = refl
-refusal_back NotOut = refl
-refusal_back Malformed = refl
-refusal_back NotWhole = refl
-
--- No refusal has the number 0.
-number_some : (e : Refusal) → number e ≡ 0 → ⊥
-unfolding refusal_of
-number_some e q =
-    let n : number e ≡ 10 = ap number (sym (refusal_back e) ∙ ap refusal_of q) in
-    let z : ⊥ = omega (arith, n, q) in z
-
-number_known : (e f : Refusal) → number e ≡ number f → e ≡ f
-number_known e f q = sym (refusal_back e) ∙ ap refusal_of q ∙ refusal_back f
 
 -- ---- what is counted
 

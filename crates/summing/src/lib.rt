@@ -150,6 +150,7 @@ pub fn class_records(shape: &Shape, view: &TablesView, out: &mut [u64])
 
 // The class summary, or a refusal that leaves the records.
 pub fn summary(shape: &Shape, view: &TablesView, out: &mut [u64]) -> Result<(), Refusal>
+    requires { shape.now.most ≤ 2 ^ 32 }
     ensures { summed (number_of result) out.new ≡ summarised shape.now view.now out.old }
 {
     if !fresh::as_stated(shape, view) {

@@ -1,29 +1,41 @@
-use Rattle.std.proofs.Common.{rules, ◌≡◌, ℕ, ◌+◌, ◌-◌, ◌*◌, ◌<◌, ◌≤◌, length, ◌/◌, ◌%◌, Bool, true, false, nat_eq, nat_lt, List, [], ◌∷◌, ◌++◌, slice_index_or, slice_set, bit_and, bit_or, Fits, w8, w32, w64, Bor, MutBor}
-use Rattle.refusals.specs.Numbers.{number_of}
-use Rattle.tables.specs.Shape.{base_shape}
-use Rattle.tables.specs.Lent.{cells, SameLent}
-use Rattle.tables.specs.Fresh.{numbered}
-use Rattle.tables.specs.Fresh.{fresh as freshly}
-use Rattle.calls.specs.Outcome.{ended}
-use Rattle.calls.specs.Answered.{answer_of}
-use Rattle.calls.specs.Calls.{allocate as allocated}
-use Rattle.calls.specs.Calls.{free as released}
-use Rattle.calls.specs.Batch.{batched}
-use Rattle.calls.specs.Batch.{batch as performed}
+-- `laggersten::allocate` meets its contract: by the table's number, a refusal or the call on a sound table. Assumes nothing.
+use mathlib.Core.Path.{◌≡◌}
+use Prim.Native.Nat.{ℕ}
+use Rattle.std.proofs.lemmas.Result.{err_from_is_err_and}
+use Rattle.refusals.proofs.NumberLaws.{number_some}
+use Rattle.size_classes.proofs.SlotSizeLaws.{slot_sizes_admissible}
+use Rattle.class_lookup.proofs.LookupLaws.{class_tables}
+use Rattle.tables.specs.Shape.{most_spans}
+use Rattle.tables.specs.Lent.{cells}
+use Rattle.laggersten.proofs.PublicLaws.{by_view, sound_lent, allocate_refused, allocate_passed}
 use Rattle.laggersten.proofs.allocate.Goals as goal
 
--- src/lib.rt:52:17
 pub new-sizes-requires : goal.new-sizes-requires
-new-sizes-requires c = ?
+new-sizes-requires c = rw c.slot_sizes-list.ensures slot_sizes_admissible
 
--- src/lib.rt:59:5
 pub returns-in_err-check-clause-ended : goal.returns-in_err-check-clause-ended
-returns-in_err-check-clause-ended c = ?
+returns-in_err-check-clause-ended c =
+    let a = c.args in
+    let p = err_from_is_err_and c.from_residual.result c.from_residual.ensures.1 in
+    let n = by_view a.heaps a.spans (cells a.tables.now) _ c.slot_sizes-list.ensures c.new-sizes.ensures c.view.ensures c.in_err-check.ensures in
+    rw (p.1, p.2) (allocate_refused a.heaps a.spans (cells a.tables.now) _ n a.heap a.size a.alignment a.words.now (number_some _))
 
--- src/lib.rt:62:5
-pub allocate_sound-requires-clause-lent : goal.allocate_sound-requires-clause-lent
-allocate_sound-requires-clause-lent c = ?
+pub new-classes-requires : goal.new-classes-requires
+new-classes-requires c = rw (c.new-sizes.ensures, c.slot_sizes-list.ensures, c.made-lookup.ensures) class_tables.right
 
--- src/lib.rt:39:1
+pub allocate_sound-requires : goal.allocate_sound-requires
+unfolding most_spans
+allocate_sound-requires c =
+    let a = c.args in
+    let n = by_view a.heaps a.spans (cells a.tables.now) _ c.slot_sizes-list.ensures c.new-sizes.ensures c.view.ensures c.in_ok-check.ensures in
+    record {
+      sizes = c.new-classes.ensures;
+      lent = rw (c.new-sizes.ensures, c.slot_sizes-list.ensures) (sound_lent a.heaps a.spans (cells a.tables.now) n);
+    }
+
 pub returns-clause-ended : goal.returns-clause-ended
-returns-clause-ended c = ?
+unfolding most_spans
+returns-clause-ended c =
+    let a = c.args in
+    let n = by_view a.heaps a.spans (cells a.tables.now) _ c.slot_sizes-list.ensures c.new-sizes.ensures c.view.ensures c.in_ok-check.ensures in
+    allocate_passed a.heaps a.spans (cells a.tables.now) a.heap a.size a.alignment a.words.now _ n (rw (c.new-sizes.ensures, c.slot_sizes-list.ensures) at c.allocate_sound.ensures.ended)

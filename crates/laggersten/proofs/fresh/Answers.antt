@@ -1,21 +1,11 @@
-use Rattle.std.proofs.Common.{rules, ◌≡◌, ℕ, ◌+◌, ◌-◌, ◌*◌, ◌<◌, ◌≤◌, length, ◌/◌, ◌%◌, Bool, true, false, nat_eq, nat_lt, List, [], ◌∷◌, ◌++◌, slice_index_or, slice_set, bit_and, bit_or, Fits, w8, w32, w64, Bor, MutBor}
-use Rattle.refusals.specs.Numbers.{number_of}
-use Rattle.tables.specs.Shape.{base_shape}
-use Rattle.tables.specs.Lent.{cells, SameLent}
-use Rattle.tables.specs.Fresh.{numbered}
-use Rattle.tables.specs.Fresh.{fresh as freshly}
-use Rattle.calls.specs.Outcome.{ended}
-use Rattle.calls.specs.Answered.{answer_of}
-use Rattle.calls.specs.Calls.{allocate as allocated}
-use Rattle.calls.specs.Calls.{free as released}
-use Rattle.calls.specs.Batch.{batched}
-use Rattle.calls.specs.Batch.{batch as performed}
+-- `laggersten::fresh` meets its contract: the maker over 01's list and limit. Assumes nothing.
+use Rattle.size_classes.proofs.SlotSizeLaws.{slot_sizes_admissible}
+use Rattle.tables.specs.Shape.{most_spans}
 use Rattle.laggersten.proofs.fresh.Goals as goal
 
--- src/lib.rt:28:17
 pub new-sizes-requires : goal.new-sizes-requires
-new-sizes-requires c = ?
+new-sizes-requires c = rw c.slot_sizes-list.ensures slot_sizes_admissible
 
--- src/lib.rt:23:1
 pub returns-clause-numbered : goal.returns-clause-numbered
-returns-clause-numbered c = ?
+unfolding most_spans
+returns-clause-numbered c = rw (c.new-sizes.ensures, c.slot_sizes-list.ensures) at c.fresh.ensures.numbered

@@ -35,7 +35,7 @@ pub class_records-requires : goal.class_records-requires
 unfolding summary_cells
 class_records-requires c =
     rw (← c.shape.view_is)
-    (sound_countable _ _ _ _ _ c.shape.invariant (rw (← c.shape.view_is) at c.as_stated.ensures) c.if-not-as_stated.false
+    (sound_countable _ _ _ _ _ (rw (← c.shape.view_is) at c.requires) (rw (← c.shape.view_is) at c.as_stated.ensures) c.if-not-as_stated.false
     (rw (← c.shape.view_is) at c.is_sound.ensures) c.if-not-is_sound.false (rw c.classes.ensures.count at c.if-out-classes.false))
 
 pub returns : goal.returns
