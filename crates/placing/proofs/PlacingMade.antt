@@ -30,9 +30,6 @@ pub removed_links :
     Links n t₁.spans t₁.heads row
 removed_links t t₁ k f s e r h = links_as e (remove_links t k f r s h)
 
-pub heads_as : {n row : ℕ} {spans heads heads₁ : List ℕ} → heads ≡ heads₁ → Links n spans heads₁ row → Links n spans heads row
-heads_as e r = rw e r
-
 -- ---- demote, by its link
 
 pub demote_none : (t : Tables) (k : ClassHeap) (x : ℕ) → x ≡ 0 → t ≡ demote t k x
