@@ -18,10 +18,7 @@ const MOST_HEAPS: u64 = 16;
 fn right_shape(shape: &Shape) -> bool
     ensures { result ≡ right_shape shape.now }
 {
-    1 <= shape.heaps
-        && shape.heaps <= MOST_HEAPS
-        && 1 <= shape.spans
-        && shape.spans <= shape.most
+    1 <= shape.heaps && shape.heaps <= MOST_HEAPS && 1 <= shape.spans && shape.spans <= shape.most
 }
 
 // Whether each lent table is as long as heaps and spans ask.

@@ -121,12 +121,7 @@ pub fn batch(
 }
 
 // Five numbers a class, over all heaps; a refusal leaves the records as they were.
-pub fn summary(
-    heaps: u64,
-    spans: u64,
-    view: &TablesView,
-    out: &mut [u64],
-) -> Result<(), Refusal>
+pub fn summary(heaps: u64, spans: u64, view: &TablesView, out: &mut [u64]) -> Result<(), Refusal>
     ensures { summed (number_of result) out.new ≡ summarised (base_shape heaps spans) view.now out.old }
 {
     let list = size_classes::slot_sizes();

@@ -61,14 +61,7 @@ fn free_block(
     ensures lent { SameLent tables.old tables.new }
     ensures ended { ended (answer_of result) (cells tables.new) ≡ free_block (cells tables.old) k heap span offset q }
 {
-    let state = span_steps::state_of(
-        tables.bits(),
-        tables.entries(),
-        tables.heads(),
-        k,
-        span,
-        q,
-    );
+    let state = span_steps::state_of(tables.bits(), tables.entries(), tables.heads(), k, span, q);
     match state {
         BlockState::Out => {
             primary::dealloc_small(tables, k, heap, span, q);

@@ -1,7 +1,7 @@
 // The class summary: one pass over the used spans adds each to the record of its class, then one pass over the classes writes slots and cached blocks.
 #![tactic(auto)]
 
-ghost use Rattle.std.specs.Prelude.{◌≡◌, ◌+◌, ◌^◌, ◌<◌, length, set};
+ghost use Rattle.std.specs.Prelude.{◌≡◌, ◌+◌, ◌^◌, ◌<◌, ◌≤◌, length, set};
 ghost use Rattle.tables.specs.Shape.{classes};
 ghost use Rattle.span.specs.Room.{WordCells};
 ghost use Rattle.refusals.specs.Numbers.{number_of};
