@@ -22,8 +22,7 @@ use Rattle.sound.specs.Decided.{is_sound}
 use Rattle.sound_laws.proofs.SoundTested.{sound_says}
 use Rattle.guard.specs.Guard.{sound_number}
 use Rattle.guard.proofs.GuardLaws.{not_stated_lem, found_sound, found_unsound, zero_means}
-use Rattle.calls.specs.declared.Answer.{Answer}
-use Rattle.calls.specs.Outcome.{Outcome, ended, refusal, refused}
+use Rattle.calls.specs.Outcome.{Outcome, refused}
 use Rattle.calls.specs.Batch.{record_bytes, answer_cells, Batched, batched, batch_from, whole_records, batch}
 use Rattle.calls.specs.Calls.{guarded, allocate_sound, allocate, free_sound, free}
 use Rattle.sound_calls.specs.Lent.{Lent}

@@ -1,6 +1,4 @@
 -- `laggersten::allocate` meets its contract: by the table's number, a refusal or the call on a sound table. Assumes nothing.
-use mathlib.Core.Path.{◌≡◌}
-use Prim.Native.Nat.{ℕ}
 use Rattle.std.proofs.lemmas.Result.{err_from_is_err_and}
 use Rattle.refusals.proofs.NumberLaws.{number_some}
 use Rattle.size_classes.proofs.SlotSizeLaws.{slot_sizes_admissible}

@@ -1,10 +1,7 @@
 -- `laggersten::free` meets its contract: by the table's number, a refusal or the call on a sound table. Assumes nothing.
-use mathlib.Core.Path.{◌≡◌}
-use Prim.Native.Nat.{ℕ}
 use Rattle.std.proofs.lemmas.Result.{err_from_is_err_and}
 use Rattle.refusals.proofs.NumberLaws.{number_some}
 use Rattle.size_classes.proofs.SlotSizeLaws.{slot_sizes_admissible}
-use Rattle.class_lookup.proofs.LookupLaws.{class_tables}
 use Rattle.tables.specs.Shape.{most_spans}
 use Rattle.tables.specs.Lent.{cells}
 use Rattle.laggersten.proofs.PublicLaws.{by_view, sound_lent, free_refused, free_passed}
