@@ -4,11 +4,12 @@
 ghost use Rattle.std.specs.Prelude.{◌<◌, length};
 ghost use Rattle.laws.specs.Choice.{Says};
 ghost use Rattle.tables.specs.Cells.{head_cell};
+ghost use Rattle.tables.specs.ListPlace.{place};
 ghost use Rattle.linked_list.specs.Lists.{list_of};
 ghost use Rattle.sound.specs.Sound.{ListSound};
 ghost use Rattle.sound_lists.specs.Walked.{UsedFields, Fits, Between, WalkAnswer, ClassLists, spans_in, ClassCells};
 
-use tables::{ClassHeap, TablesView};
+use tables::{ClassHeap, SpanList, TablesView};
 
 const CLASS: u64 = 0;
 
@@ -19,14 +20,6 @@ const OCCUPIED: u64 = 2;
 const PREVIOUS: u64 = 3;
 
 const NEXT: u64 = 4;
-
-const PARTIAL: u64 = 0;
-
-const FULL: u64 = 1;
-
-const EMPTY: u64 = 2;
-
-const RESERVE: u64 = 3;
 
 // Whether span s is one of a list of that class and heap: it links back to p, and its count is from low on and below high.
 fn link_fits(view: &TablesView, k: ClassHeap, s: u64, p: u64, low: u64, high: u64) -> bool
@@ -43,14 +36,14 @@ fn link_fits(view: &TablesView, k: ClassHeap, s: u64, p: u64, low: u64, high: u6
         && (low..high).contains(&tables::field(spans, s, OCCUPIED))
 }
 
-// How many spans list f holds, each with a count from low on and below high; none where the list is not right.
-fn list_met(view: &TablesView, k: ClassHeap, f: u64, low: u64, high: u64) -> Option<u64>
+// How many spans a list holds, each with a count from low on and below high; none where the list is not right.
+fn list_met(view: &TablesView, k: ClassHeap, list: SpanList, low: u64, high: u64) -> Option<u64>
     requires used_fields { UsedFields view.now.spans view.now.used }
-    requires f_in_bounds { head_cell k.row f < length view.now.heads }
-    ensures { WalkAnswer (ListSound view.now k f (Between low high)) (length (list_of view.now k f)) result }
+    requires list_in_bounds { head_cell k.row (place list) < length view.now.heads }
+    ensures { WalkAnswer (ListSound view.now k (place list) (Between low high)) (length (list_of view.now k (place list))) result }
 {
     let spans = view.spans;
-    let mut x = tables::head(view.heads, k.row, f);
+    let mut x = linked_list::front(view.heads, k.row, list);
     let mut p: u64 = 0;
     let mut met: u64 = 0;
     while x != 0 {
@@ -74,15 +67,15 @@ pub fn class_met(view: &TablesView, k: ClassHeap) -> Option<u64>
     ensures { WalkAnswer (ClassLists view.now k) (spans_in view.now k) result }
 {
     let heads = view.heads;
-    let partial = list_met(view, k, PARTIAL, 1, k.slots)?;
-    let full = list_met(view, k, FULL, k.slots, k.slots + 1)?;
-    let empty = list_met(view, k, EMPTY, 0, 1)?;
-    let kept = list_met(view, k, RESERVE, 0, 1)?;
+    let partial = list_met(view, k, SpanList::Partial, 1, k.slots)?;
+    let full = list_met(view, k, SpanList::Full, k.slots, k.slots + 1)?;
+    let empty = list_met(view, k, SpanList::Empty, 0, 1)?;
+    let kept = list_met(view, k, SpanList::Reserve, 0, 1)?;
     if kept > 1 {
         return None;
     }
-    let first = tables::head(heads, k.row, RESERVE);
-    let apart = first == 0 || tables::head(heads, k.row, EMPTY) != first;
+    let first = linked_list::front(heads, k.row, SpanList::Reserve);
+    let apart = first == 0 || linked_list::front(heads, k.row, SpanList::Empty) != first;
     if !apart {
         return None;
     }

@@ -63,7 +63,7 @@ overflow_add-result-3 c = omega (arith, all_fit c)
 pub returns : goal.returns
 returns c =
     let a = c.args in
-    let front : c.head-first.result ≡ head_at a.view.now a.k reserve = rw (← c.view.view_is) c.head-first.ensures in
+    let front : c.front-first.result ≡ head_at a.view.now a.k reserve = rw (← c.view.view_is) c.front-first.ensures in
     class_right a.view.now a.k c.in_ok-partial.ensures c.in_ok-full.ensures c.in_ok-empty.ensures c.in_ok-kept.ensures c.if-kept-gt1.false
     (elim c.if-first-eq0.branch [
       | then-first-eq0 w ↦ λ z. sym front ∙ w.if-first-eq0.true
@@ -71,5 +71,5 @@ returns c =
           absurd
           (true≢false
           (sym c.if-not-apart.false ∙ w.apart-is
-          ∙ ap not (eq-eqb w.head.result c.head-first.result ((rw (← c.view.view_is) w.head.ensures) ∙ z ∙ sym front))))
+          ∙ ap not (eq-eqb w.front.result c.front-first.result ((rw (← c.view.view_is) w.front.ensures) ∙ z ∙ sym front))))
     ])
