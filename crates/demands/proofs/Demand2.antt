@@ -1,4 +1,4 @@
--- Demand 2. Its second sentence: "Some choice, bit deposit and slot division are proved against their written definitions."; and of its first what is said
+-- Demand 2. Its second sentence: "Class choice, bit deposit and slot division are proved against their written definitions."; and of its first what is said
 -- over the definitions alone: the words used, and a batch as its single calls. Assumes nothing.
 use Rattle.std.specs.Prelude.{Option, Some, None}
 use mathlib.Core.Path.{◌≡◌, refl}

@@ -34,7 +34,8 @@ fn flush_one(tables: &mut LentTables, k: ClassHeap)
     ensures lent { SameLent tables.old tables.new }
     ensures cells { cells tables.new ≡ flush_one (cells tables.old) k }
 {
-    let e = magazine::pop(tables, k);
+    let e = magazine::top(tables.entries(), tables.heads(), k);
+    magazine::lower(tables.heads, k);
     give_back(tables, k, tables::entry_span(e), tables::entry_slot(e));
 }
 

@@ -32,7 +32,7 @@ fn refill_first(tables: &mut LentTables, limit: u64, k: ClassHeap, words: &[u64]
     0
 }
 
-// A block drawn with the next word after i; none where the magazine is empty.
+// A block drawn with the next word after i; refused where the magazine is empty.
 fn draw(tables: &mut LentTables, k: ClassHeap, words: &[u64], i: u64) -> Result<Accepted, Refusal>
     requires room { Room tables.old.entries.now tables.old.heads.now k }
     requires i_in_bounds { (i < length words.now) × (i ≤ most_capacity) }

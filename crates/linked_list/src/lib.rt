@@ -7,11 +7,7 @@ ghost use Rattle.tables.specs.ListPlace.{place};
 ghost use Rattle.linked_list.specs.Lists.{set_linked, set_links, push as pushed, remove as removed, pop as popped};
 ghost use Rattle.linked_list.specs.Reach.{Links};
 
-use tables::{ClassHeap, SpanList};
-
-const PREVIOUS: u64 = 3;
-
-const NEXT: u64 = 4;
+use tables::{ClassHeap, NEXT, PREVIOUS, SpanList};
 
 // Field f of the span that a link names becomes v; a link to none names nothing.
 fn put_linked(spans: &mut [u64], link: u64, f: u64, v: u64)

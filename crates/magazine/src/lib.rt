@@ -2,14 +2,11 @@
 #![tactic(auto)]
 
 ghost use Rattle.std.specs.Prelude.{◌≡◌, List, ℕ, ◌<◌};
-ghost use Rattle.tables.specs.Lent.{cells, SameLent};
 ghost use Rattle.tables.specs.Cells.{tables as table, entry_at};
 ghost use Rattle.magazine.specs.Magazine.{needs_refill, is_full, push_entry, top_entry, pop_entry, drawn_at, draw_entry, is_cached};
 ghost use Rattle.magazine.specs.Room.{count_in, Counted, Room};
 
-use tables::{ClassHeap, LentTables};
-
-const COUNTER: u64 = 4;
+use tables::{COUNTER, ClassHeap};
 
 // How many entries the magazine has.
 pub fn count(heads: &[u64], k: ClassHeap) -> u64
@@ -46,17 +43,35 @@ pub fn push(entries: &mut [u64], heads: &mut [u64], k: ClassHeap, e: u64)
     tables::put_head(heads, k.row, COUNTER, c + 1);
 }
 
-// The top entry leaves, and its cell keeps its value.
-pub fn pop(tables: &mut LentTables, k: ClassHeap) -> u64
-    requires room { Room tables.old.entries.now tables.old.heads.now k }
-    requires k_nonzero { 0 < count_in tables.old.heads.now k }
-    ensures lent { SameLent tables.old tables.new }
-    ensures top { result ≡ top_entry (cells tables.old) k }
-    ensures cells { cells tables.new ≡ pop_entry (cells tables.old) k }
+// The top entry.
+pub fn top(entries: &[u64], heads: &[u64], k: ClassHeap) -> u64
+    requires room { Room entries.now heads.now k }
+    requires k_nonzero { 0 < count_in heads.now k }
+    ensures { (b p : List ℕ) (u : ℕ) → result ≡ top_entry (table b p entries.now heads.now u) k }
 {
-    let top = count(tables.heads(), k) - 1;
-    tables::put_head(tables.heads, k.row, COUNTER, top);
-    tables::entry(tables.entries(), k.base, top)
+    tables::entry(entries, k.base, count(heads, k) - 1)
+}
+
+// The magazine without its top entry, whose cell keeps its value.
+pub fn lower(heads: &mut [u64], k: ClassHeap)
+    requires counted { Counted heads.old k }
+    requires k_nonzero { 0 < count_in heads.old k }
+    ensures { (b p e : List ℕ) (u : ℕ) → table b p e heads.new u ≡ pop_entry (table b p e heads.old u) k }
+{
+    let top = count(heads, k) - 1;
+    tables::put_head(heads, k.row, COUNTER, top);
+}
+
+// The top entry leaves, and its cell keeps its value.
+pub fn pop(entries: &[u64], heads: &mut [u64], k: ClassHeap) -> u64
+    requires room { Room entries.now heads.old k }
+    requires k_nonzero { 0 < count_in heads.old k }
+    ensures by_index { (b p : List ℕ) (u : ℕ) → result ≡ top_entry (table b p entries.now heads.old u) k }
+    ensures by_index_2 { (b p : List ℕ) (u : ℕ) → table b p entries.now heads.new u ≡ pop_entry (table b p entries.now heads.old u) k }
+{
+    let e = top(entries, heads, k);
+    lower(heads, k);
+    e
 }
 
 // The entry at (word mod count) leaves, and the top entry fills its place.

@@ -7,9 +7,7 @@ ghost use Rattle.tables.specs.Cells.{head_cell, full_list};
 ghost use Rattle.class_heap.specs.Steps.{reclaim_one, reclaim as reclaimed};
 ghost use Rattle.placing.specs.Working.{Working};
 
-use tables::{ClassHeap, LentTables, SpanList};
-
-const NEXT: u64 = 4;
+use tables::{ClassHeap, LentTables, NEXT, SpanList};
 
 // Span s, which is on the full list: its pending frees are folded, and it is placed, where there are any.
 fn reclaim_one(tables: &mut LentTables, k: ClassHeap, s: u64)

@@ -1,4 +1,4 @@
--- Some choice in 01's words, for every admissible list: the answer is the smallest fitting class, a refusal stands exactly where the size or the
+-- Class choice in 01's words, for every admissible list: the answer is the smallest fitting class, a refusal stands exactly where the size or the
 -- raised alignment is above the last size, and no second answer fits. Assumes nothing.
 use Rattle.std.specs.Prelude.{Option, Some, None}
 use mathlib.Core.Bool.{true, true≢false}

@@ -1,4 +1,4 @@
-// Allocate and free on a table that is known to be sound: every answer but 1 and 2, and no check paid.
+// Allocate and free on a table that is known to be sound: every refusal but `NotAsStated` and `Unsound`, and no check paid.
 #![tactic(auto)]
 
 ghost use Rattle.std.specs.Prelude.{◌≡◌, ℕ};
@@ -12,13 +12,9 @@ use calls::Accepted;
 use class_choice::Classes;
 use refusals::Refusal;
 use span::BlockState;
-use tables::{ClassHeap, LentTables, Shape};
+use tables::{CLASS, ClassHeap, LentTables, OWNER, Shape};
 
 const WORDS_NEEDED: u64 = 65;
-
-const CLASS: u64 = 0;
-
-const OWNER: u64 = 1;
 
 // An allocation on a sound table: refused in the order of the numbers, or a block.
 pub fn allocate_sound(

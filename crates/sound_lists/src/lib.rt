@@ -9,17 +9,7 @@ ghost use Rattle.linked_list.specs.Lists.{list_of};
 ghost use Rattle.sound.specs.Sound.{ListSound};
 ghost use Rattle.sound_lists.specs.Walked.{UsedFields, Fits, Between, WalkAnswer, ClassLists, spans_in, ClassCells};
 
-use tables::{ClassHeap, SpanList, TablesView};
-
-const CLASS: u64 = 0;
-
-const OWNER: u64 = 1;
-
-const OCCUPIED: u64 = 2;
-
-const PREVIOUS: u64 = 3;
-
-const NEXT: u64 = 4;
+use tables::{CLASS, ClassHeap, NEXT, OCCUPIED, OWNER, PREVIOUS, SpanList, TablesView};
 
 // Whether span s is one of a list of that class and heap: it links back to p, and its count is from low on and below high.
 fn link_fits(view: &TablesView, k: ClassHeap, s: u64, p: u64, low: u64, high: u64) -> bool

@@ -7,15 +7,7 @@ ghost use Rattle.magazine.specs.Room.{Counted};
 ghost use Rattle.sound.specs.Sound.{EntrySound, MagazineSound};
 ghost use Rattle.sound_spans.specs.WordSound.{UsedCells};
 
-use tables::{ClassHeap, TablesView};
-
-const CLASS: u64 = 0;
-
-const OWNER: u64 = 1;
-
-const LOCAL_WORDS: u64 = 1;
-
-const REMOTE_WORDS: u64 = 66;
+use tables::{CLASS, ClassHeap, LOCAL_WORDS, OWNER, REMOTE_WORDS, TablesView};
 
 // Whether an entry is a slot of a used span of that class and heap, in range, occupied and not pending.
 fn entry_sound(view: &TablesView, k: ClassHeap, e: u64) -> bool

@@ -6,21 +6,10 @@ ghost use Rattle.laws.specs.Choice.{Says};
 ghost use Rattle.sound.specs.Sound.{SpanFilled};
 ghost use Rattle.sound_spans.specs.WordSound.{pad_of, WordSound, UsedCells};
 
-use tables::{Shape, TablesView};
-
-const CLASS: u64 = 0;
-
-const OWNER: u64 = 1;
-
-const OCCUPIED: u64 = 2;
-
-const LOCAL_SUMMARY: u64 = 0;
-
-const LOCAL_WORDS: u64 = 1;
-
-const REMOTE_SUMMARY: u64 = 65;
-
-const REMOTE_WORDS: u64 = 66;
+use tables::{
+    CLASS, LOCAL_SUMMARY, LOCAL_WORDS, OCCUPIED, OWNER, REMOTE_SUMMARY, REMOTE_WORDS, Shape,
+    TablesView,
+};
 
 const MOST_SLOTS: u64 = 4096;
 

@@ -12,7 +12,9 @@ ghost use Rattle.span.specs.Room.{WordCells, FieldCells, SpanCells};
 ghost use Rattle.span.specs.Span.{loaded, stored as stored_in, is_full, is_empty, has_pending, clear_pending, remote_free, new_span};
 
 use occupancy::Occupancy;
-use tables::ClassHeap;
+use tables::{
+    CLASS, ClassHeap, LOCAL_SUMMARY, LOCAL_WORDS, OCCUPIED, REMOTE_SUMMARY, REMOTE_WORDS,
+};
 
 // "A block is free (bit clear), cached (in its owner's magazine), pending, or out (occupied, neither cached nor pending)."
 #[derive(Clone, Copy)]
@@ -22,18 +24,6 @@ pub enum BlockState {
     Pending,
     Out,
 }
-
-const LOCAL_SUMMARY: u64 = 0;
-
-const LOCAL_WORDS: u64 = 1;
-
-const REMOTE_SUMMARY: u64 = 65;
-
-const REMOTE_WORDS: u64 = 66;
-
-const CLASS: u64 = 0;
-
-const OCCUPIED: u64 = 2;
 
 // The remote summary and the 64 remote words, one after the other.
 const REMOTE_CELLS: usize = 65;

@@ -14,11 +14,7 @@ ghost use Rattle.span.specs.State.{state_in};
 
 use occupancy::{Claimed, Occupancy};
 use span::BlockState;
-use tables::ClassHeap;
-
-const LOCAL_WORDS: u64 = 1;
-
-const REMOTE_WORDS: u64 = 66;
+use tables::{ClassHeap, LOCAL_WORDS, REMOTE_WORDS};
 
 // Slot q of span s is free again.
 pub fn dealloc_slot(bits: &mut [u64], spans: &mut [u64], s: u64, q: u64)

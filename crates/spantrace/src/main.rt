@@ -8,7 +8,7 @@ ghost use Rattle.spantrace.specs.Trace.{WroteAnswer, WroteSpan, letter, place_of
 use refusals::Refusal;
 use size_classes::SlotSizes;
 use std::io::{Read, Write};
-use tables::LentTables;
+use tables::{CLASS, COUNTER, LentTables, OCCUPIED, OWNER, SpanList};
 use trace_text::Text;
 
 // The tables of 4 heaps and 32 spans have 4160 bitmap words, 160 record cells, 3168 entries and 960 heads.
@@ -17,17 +17,6 @@ const HEAPS: u64 = 4;
 const SPANS: u64 = 32;
 
 const CLASSES: u64 = 48;
-
-// Fields of a span's record, and heads of a class of a heap.
-const CLASS: u64 = 0;
-
-const OWNER: u64 = 1;
-
-const OCCUPIED: u64 = 2;
-
-const RESERVE: u64 = 3;
-
-const COUNTER: u64 = 4;
 
 // The number of a malformed record.
 const MALFORMED: u64 = 9;
@@ -323,7 +312,7 @@ impl Trace {
             return None;
         }
         let occupied = tables::field(&self.records, s, OCCUPIED);
-        let kept = tables::head(&self.heads, k.row, RESERVE);
+        let kept = linked_list::front(&self.heads, k.row, SpanList::Reserve);
         Some(SpanLine {
             span: s,
             slot: k.slot,

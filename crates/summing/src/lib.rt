@@ -9,15 +9,7 @@ ghost use Rattle.calls.specs.Summary.{class_records, summed, summary as summaris
 ghost use Rattle.summing.specs.Tally.{summary_cell, summary_at, pending_in, cached_in, added, span_added, class_written, SpanFits, SpansCount, HeadsCount, ClassFits, ClassesFit, Countable, Tallied, Written};
 
 use refusals::Refusal;
-use tables::{Shape, TablesView};
-
-const CLASS: u64 = 0;
-
-const OCCUPIED: u64 = 2;
-
-const COUNT: u64 = 4;
-
-const REMOTE_WORDS: u64 = 66;
+use tables::{CLASS, COUNTER, OCCUPIED, REMOTE_WORDS, Shape, TablesView};
 
 // How many cells a class's record has, and which they are.
 pub const SUMMARY_CELLS: u64 = 5;
@@ -111,7 +103,7 @@ fn cached(shape: &Shape, view: &TablesView, c: u64) -> u64
     let classes = shape.sizes.classes();
     let mut total: u64 = 0;
     for h in 0..shape.heaps {
-        total += tables::head(view.heads, h * classes + c, COUNT);
+        total += tables::head(view.heads, h * classes + c, COUNTER);
     }
     total
 }

@@ -1,4 +1,4 @@
-// The lent tables: cells by their names, and the numbers of one class of one heap.
+// The lent tables as one value, to be changed or read, and what they are made for; cells by their names, and the numbers of one class of one heap.
 #![tactic(auto)]
 
 ghost use Rattle.std.specs.Prelude.{◌≡◌, ℕ, ◌+◌, ◌^◌, ◌<◌, length, get_or, set};
@@ -122,6 +122,28 @@ pub const BITMAP_CELLS: u64 = 130;
 pub const RECORD_CELLS: u64 = 5;
 
 pub const HEAD_CELLS: u64 = 5;
+
+// The bitmap words of a span: which are the summaries, and where the words of each side begin.
+pub const LOCAL_SUMMARY: u64 = 0;
+
+pub const LOCAL_WORDS: u64 = 1;
+
+pub const REMOTE_SUMMARY: u64 = 65;
+
+pub const REMOTE_WORDS: u64 = 66;
+
+// The cells of a span's record, and the count of a magazine among the heads.
+pub const CLASS: u64 = 0;
+
+pub const OWNER: u64 = 1;
+
+pub const OCCUPIED: u64 = 2;
+
+pub const PREVIOUS: u64 = 3;
+
+pub const NEXT: u64 = 4;
+
+pub const COUNTER: u64 = 4;
 
 const MOST_SLOTS: u64 = 4096;
 
