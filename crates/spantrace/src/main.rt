@@ -18,9 +18,6 @@ const SPANS: u64 = 32;
 
 const CLASSES: u64 = 48;
 
-// The number of a malformed record.
-const MALFORMED: u64 = 9;
-
 // A record has 28 bytes; 512 of them are read at once, and soundness is checked once for them.
 const RECORD_BYTES: usize = 28;
 
@@ -272,7 +269,7 @@ impl Trace {
             }
         }
         if end < bytes.len() {
-            self.put_next(Answer::of_number(MALFORMED), text);
+            self.put_next(Answer::of_number(u64::from(Refusal::Malformed)), text);
         }
     }
 

@@ -16,8 +16,8 @@ head-count-requires c =
     let e = c.new-sizes.ensures ∙ c.slot_sizes-list.ensures in
     head_here (home_here _ _ _ _ e c.class_heap-k.ensures (omega (arith, c.if-owner-ge-HEAPS.false)) (omega (arith, c.if-class-ge-CLASSES.false))) (omega arith) (omega arith)
 
-pub head-kept-requires : goal.head-kept-requires
-head-kept-requires c =
+pub front-kept-requires : goal.front-kept-requires
+front-kept-requires c =
     let e = c.new-sizes.ensures ∙ c.slot_sizes-list.ensures in
     head_here (home_here _ _ _ _ e c.class_heap-k.ensures (omega (arith, c.if-owner-ge-HEAPS.false)) (omega (arith, c.if-class-ge-CLASSES.false))) (omega arith) (omega arith)
 
