@@ -1,16 +1,18 @@
 -- Slots back to their spans, a call at a time; and what that keeps. Assumes nothing.
 use mathlib.Core.Path.{◌≡◌, refl, sym, ◌∙◌}
 use mathlib.Core.Bool.{true, false, cond}
+use mathlib.Core.List.{List}
 use Prim.Native.Nat.{ℕ, zero, suc, ◌+◌, ◌-◌, ◌<◌, ◌≤◌}
 use native.Mathlib.Numerals.{sub-one}
 use native.Mathlib.Omega.{arith}
 use borrow.Author.Tests.{lt-ltb, le-ltb, ltb-true}
+use lib.ListN.{length}
 use lib.Dec.{ltb}
 use Rattle.laws.proofs.CondLaws.{cond_both}
 use Rattle.size_classes.specs.Slots.{most_slots}
 use Rattle.tables.specs.declared.ClassHeap.{ClassHeap}
 use Rattle.tables.specs.Shape.{Shape, class_heap}
-use Rattle.tables.specs.Cells.{Tables, occupied_at, partial_list, full_list, count_at, entry_span, entry_slot}
+use Rattle.tables.specs.Cells.{Tables, tables, occupied_at, partial_list, full_list, count_at, entry_span, entry_slot}
 use Rattle.magazine.specs.Magazine.{top_entry, pop_entry}
 use Rattle.magazine.proofs.MagazineLaws.{pop_count}
 use Rattle.linked_list.proofs.QuietLaws.{quiet_count}
@@ -183,20 +185,34 @@ flush_makes_room i {n} {k} {t} h w l =
     let some : 0 < count_at t k = omega (arith, l) in
     rw (flush_turn i t k h l) (omega (arith, flush_fewer (i - 1) (flush_one_working w some), flush_one_count w some))
 
-pub record Flushing (k : ClassHeap) (t₀ t : Tables) (left : ℕ) : Type 0 where
+pub record Flushing (k : ClassHeap) (b₀ sp₀ e hd₀ b sp hd : List ℕ) (left : ℕ) : Type 0 where
   pub limit : ℕ
-  pub working : Working limit k t
-  pub same : flush left t k ≡ flush k.capacity t₀ k
+  pub used : ℕ
+  pub working : Working limit k (tables b sp e hd used)
+  pub bits_length : length b ≡ length b₀
+  pub spans_length : length sp ≡ length sp₀
+  pub heads_length : length hd ≡ length hd₀
+  pub same : (u : ℕ) → flush left (tables b sp e hd u) k ≡ flush k.capacity (tables b₀ sp₀ e hd₀ u) k
 
-pub flush_start : {n : ℕ} {k : ClassHeap} {t : Tables} {left : ℕ} → Working n k t → left ≡ k.capacity → Flushing k t t left
-flush_start {n} {k} {t} w l = record { limit = n; working = w; same = rw l }
+pub flush_start :
+    {n u : ℕ} {k : ClassHeap} {b sp e hd : List ℕ} {left : ℕ} → Working n k (tables b sp e hd u) → left ≡ k.capacity → Flushing k b sp e hd b sp hd left
+flush_start {n} {u} w l =
+    record { limit = n; used = u; working = w; bits_length = refl; spans_length = refl; heads_length = refl; same = λ u. rw l }
 
-module _ {k : ClassHeap} {t₀ t t' : Tables} {left rest : ℕ} (w : Flushing k t₀ t left) where
-  pub flush_again : left ≡ rest + 1 → k.low < count_at t k → t' ≡ flush_one t k → Flushing k t₀ t' rest
-  flush_again h l z =
-      let e : rest ≡ left - 1 = omega (arith, h) in
+module _ {k : ClassHeap} {b₀ sp₀ e hd₀ b sp hd b' sp' hd' : List ℕ} {left rest : ℕ} (w : Flushing k b₀ sp₀ e hd₀ b sp hd left) where
+  pub flush_again :
+      left ≡ rest + 1 → k.low < count_at (tables b sp e hd w.used) k →
+      length b' ≡ length b → length sp' ≡ length sp → length hd' ≡ length hd →
+      ((u : ℕ) → tables b' sp' e hd' u ≡ flush_one (tables b sp e hd u) k) →
+      Flushing k b₀ sp₀ e hd₀ b' sp' hd' rest
+  flush_again h l lb ls lh z =
+      let r : rest ≡ left - 1 = omega (arith, h) in
       record {
         limit = w.limit;
-        working = working_as z (flush_one_working w.working (omega (arith, l)));
-        same = rw (z, e) (sym (flush_turn left t k (omega (arith, h)) l) ∙ w.same);
+        used = w.used;
+        working = working_as (z w.used) (flush_one_working w.working (omega (arith, l)));
+        bits_length = lb ∙ w.bits_length;
+        spans_length = ls ∙ w.spans_length;
+        heads_length = lh ∙ w.heads_length;
+        same = λ u. rw (z u, r) (sym (flush_turn left (tables b sp e hd u) k (omega (arith, h)) l) ∙ w.same u);
       }

@@ -4,6 +4,7 @@
 ghost use Rattle.std.specs.Prelude.{◌≡◌, ℕ, ◌<◌, ◌≤◌, length};
 ghost use Rattle.size_classes.specs.SlotSizes.{largest_slot};
 ghost use Rattle.magazine_layout.specs.Layout.{most_capacity};
+ghost use Rattle.tables.specs.Cells.{tables as table};
 ghost use Rattle.tables.specs.Lent.{cells, SameLent};
 ghost use Rattle.magazine.specs.Room.{Room};
 ghost use Rattle.class_heap.specs.Steps.{refilled};
@@ -71,22 +72,34 @@ pub fn alloc_small(
 }
 
 // The magazine flushed down to low water where it is full.
-fn flush_first(tables: &mut LentTables, k: ClassHeap)
-    requires { (n : ℕ) × Working n k (cells tables.old) }
-    ensures lent { SameLent tables.old tables.new }
-    ensures cells { cells tables.new ≡ flush_first (cells tables.old) k }
+fn flush_first(
+    bits: &mut [u64],
+    spans: &mut [u64],
+    entries: &[u64],
+    heads: &mut [u64],
+    k: ClassHeap,
+)
+    requires { (n : ℕ) × (u : ℕ) × Working n k (table bits.old spans.old entries.now heads.old u) }
+    ensures { (u : ℕ) → table bits.new spans.new entries.now heads.new u ≡ flush_first (table bits.old spans.old entries.now heads.old u) k }
 {
-    if magazine::is_full(tables.heads(), k) {
-        flushing::flush(tables, k);
+    if magazine::is_full(heads, k) {
+        flushing::flush(bits, spans, entries, heads, k);
     }
 }
 
 // Slot q of span s, which is out, on its owner's magazine.
-pub fn dealloc_local(tables: &mut LentTables, k: ClassHeap, s: u64, q: u64)
-    requires { (n : ℕ) × Freeable n k (cells tables.old) s q }
-    ensures lent { SameLent tables.old tables.new }
-    ensures cells { cells tables.new ≡ dealloc_local (cells tables.old) k s q }
+pub fn dealloc_local(
+    bits: &mut [u64],
+    spans: &mut [u64],
+    entries: &mut [u64],
+    heads: &mut [u64],
+    k: ClassHeap,
+    s: u64,
+    q: u64,
+)
+    requires { (n : ℕ) × (u : ℕ) × Freeable n k (table bits.old spans.old entries.old heads.old u) s q }
+    ensures { (u : ℕ) → table bits.new spans.new entries.new heads.new u ≡ dealloc_local (table bits.old spans.old entries.old heads.old u) k s q }
 {
-    flush_first(tables, k);
-    magazine::push(tables.entries, tables.heads, k, tables::entry_of(s, q));
+    flush_first(bits, spans, entries, heads, k);
+    magazine::push(entries, heads, k, tables::entry_of(s, q));
 }

@@ -2,21 +2,29 @@
 #![tactic(auto)]
 
 ghost use Rattle.std.specs.Prelude.{◌≡◌, ℕ};
-ghost use Rattle.tables.specs.Lent.{cells, SameLent};
+ghost use Rattle.tables.specs.Cells.{tables as table};
 ghost use Rattle.calls.specs.Primary.{dealloc_small};
 ghost use Rattle.heap.specs.Freeable.{Freeable};
 
-use tables::{ClassHeap, LentTables};
+use tables::ClassHeap;
 
 // Slot q of span s, which is out, freed by a heap; k is the span's class and owner.
-pub fn dealloc_small(tables: &mut LentTables, k: ClassHeap, heap: u64, s: u64, q: u64)
-    requires { (n : ℕ) × Freeable n k (cells tables.old) s q }
-    ensures lent { SameLent tables.old tables.new }
-    ensures cells { cells tables.new ≡ dealloc_small (cells tables.old) k heap s q }
+pub fn dealloc_small(
+    bits: &mut [u64],
+    spans: &mut [u64],
+    entries: &mut [u64],
+    heads: &mut [u64],
+    k: ClassHeap,
+    heap: u64,
+    s: u64,
+    q: u64,
+)
+    requires { (n : ℕ) × (u : ℕ) × Freeable n k (table bits.old spans.old entries.old heads.old u) s q }
+    ensures { (u : ℕ) → table bits.new spans.new entries.new heads.new u ≡ dealloc_small (table bits.old spans.old entries.old heads.old u) k heap s q }
 {
     if k.owner == heap {
-        heap::dealloc_local(tables, k, s, q);
+        heap::dealloc_local(bits, spans, entries, heads, k, s, q);
         return;
     }
-    span::remote_free(tables.bits, s, q);
+    span::remote_free(bits, s, q);
 }

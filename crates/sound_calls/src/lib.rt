@@ -60,7 +60,16 @@ fn free_block(
     let state = span_steps::state_of(tables.bits(), tables.entries(), tables.heads(), k, span, q);
     match state {
         BlockState::Out => {
-            primary::dealloc_small(tables, k, heap, span, q);
+            primary::dealloc_small(
+                tables.bits,
+                tables.spans,
+                tables.entries,
+                tables.heads,
+                k,
+                heap,
+                span,
+                q,
+            );
             Ok(Accepted {
                 span,
                 offset,

@@ -3,31 +3,25 @@ use Rattle.placing.proofs.PlacingKept.{working_room}
 use Rattle.flushing.proofs.FlushingLaws.{popped_returnable, flush_one_made}
 use Rattle.flushing.proofs.flush_one.Goals as goal
 
-pub top-e-requires : goal.top-e-requires
-top-e-requires c = let p = c.requires in
+pub pop-e-requires : goal.pop-e-requires
+pop-e-requires c = let p = c.requires in
     record {
-      room = rw (c.entries.ensures, c.heads.ensures) (working_room p.working.1);
-      k_nonzero = rw c.heads.ensures p.k_nonzero;
-    }
-
-pub lower-requires : goal.lower-requires
-lower-requires c = let p = c.requires in
-    record {
-      counted = (working_room p.working.1).row;
+      room = working_room p.by_index.2;
       k_nonzero = p.k_nonzero;
     }
 
 pub give_back-requires : goal.give_back-requires
 give_back-requires c =
-    let t = c.args.tables.now in
-    let p = c.requires in
-    let top = rw (c.entries.ensures, c.heads.ensures) at (c.top-e.ensures t.bits.now t.spans.now t.used.now) in
-    let popped = c.lower.ensures t.bits.now t.spans.now t.entries.now t.used.now in
-    (p.working.0, popped_returnable p.working.1 p.k_nonzero _ _ _ _ popped top c.entry_span.ensures c.entry_slot.ensures)
+    let p = c.requires in (
+      p.by_index.0,
+      c.args.entries.now,
+      p.by_index.1,
+      popped_returnable p.by_index.2 p.k_nonzero _ _ _ _ (c.pop-e.ensures.by_index_2 c.args.bits.now c.args.spans.now p.by_index.1)
+          (c.pop-e.ensures.by_index c.args.bits.now c.args.spans.now p.by_index.1) c.entry_span.ensures c.entry_slot.ensures,
+    )
 
-pub returns-clause-cells : goal.returns-clause-cells
-returns-clause-cells c =
-    let t = c.args.tables.now in
-    let top = rw (c.entries.ensures, c.heads.ensures) at (c.top-e.ensures t.bits.now t.spans.now t.used.now) in
-    let popped = c.lower.ensures t.bits.now t.spans.now t.entries.now t.used.now in
-    flush_one_made _ _ _ _ _ _ _ top c.entry_span.ensures c.entry_slot.ensures popped c.give_back.ensures.cells
+pub returns : goal.returns
+returns c =
+    λ u.
+    flush_one_made _ _ _ _ _ _ _ (c.pop-e.ensures.by_index c.args.bits.now c.args.spans.now u) c.entry_span.ensures c.entry_slot.ensures
+    (c.pop-e.ensures.by_index_2 c.args.bits.now c.args.spans.now u) (c.give_back.ensures c.args.entries.now u)

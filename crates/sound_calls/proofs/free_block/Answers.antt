@@ -19,4 +19,4 @@ pub dealloc_small-requires : goal.dealloc_small-requires
 dealloc_small-requires c =
     let t = c.args.tables.now in
     let state = rw (c.bits.ensures, c.entries.ensures, c.heads.ensures) at (c.in-Out.ensures t.spans.now t.used.now) in
-    (c.requires.0, block_freeable c.requires.1 state)
+    (_, t.used.now, block_freeable c.requires.1 state)
