@@ -2,14 +2,13 @@
 #![tactic(auto)]
 
 ghost use Rattle.std.specs.Prelude.{◌≡◌, List, ℕ, ◌<◌};
-ghost use Rattle.tables.specs.Lent.{cells, SameLent};
 ghost use Rattle.tables.specs.Cells.{tables as table};
 ghost use Rattle.linked_list.specs.Reach.{Links};
 ghost use Rattle.class_heap.specs.Steps.{if_full, taken, claim_from, claim_front};
 ghost use Rattle.claiming.specs.Claimable.{Claimable, Own, Fronted};
 
 use occupancy::Claimed;
-use tables::{ClassHeap, LentTables, SpanList};
+use tables::{ClassHeap, SpanList};
 
 // Span s, of the partial list, to the front of full if it became full.
 fn if_full(spans: &mut [u64], heads: &mut [u64], k: ClassHeap, s: u64)
@@ -23,38 +22,57 @@ fn if_full(spans: &mut [u64], heads: &mut [u64], k: ClassHeap, s: u64)
 }
 
 // A claim's answer taken apart: its slots into the magazine; no claim leaves the step.
-fn take(tables: &mut LentTables, k: ClassHeap, s: u64, answer: Claimed)
-    requires { (n : ℕ) × Claimable n k (cells tables.old) s answer }
-    ensures lent { SameLent tables.old tables.new }
-    ensures cells { cells tables.new ≡ taken (cells tables.old) k s answer }
+fn take(
+    spans: &mut [u64],
+    entries: &mut [u64],
+    heads: &mut [u64],
+    k: ClassHeap,
+    s: u64,
+    answer: Claimed,
+)
+    requires { (n : ℕ) × (b : List ℕ) × (u : ℕ) × Claimable n k (table b spans.old entries.old heads.old u) s answer }
+    ensures { (b : List ℕ) (u : ℕ) → table b spans.new entries.new heads.new u ≡ taken (table b spans.old entries.old heads.old u) k s answer }
 {
     match answer {
         Claimed::Nothing => {}
         Claimed::Taken { word, mask } => {
-            span_steps::push_claimed(tables.entries, tables.heads, k, s, word, mask);
-            if_full(tables.spans, tables.heads, k, s);
+            span_steps::push_claimed(entries, heads, k, s, word, mask);
+            if_full(spans, heads, k, s);
         }
     }
 }
 
 // One claim of span s, of as many slots as the magazine has room for.
-fn claim_from(tables: &mut LentTables, k: ClassHeap, s: u64, word: u64)
-    requires { (n : ℕ) × Own n k (cells tables.old) s }
-    ensures lent { SameLent tables.old tables.new }
-    ensures cells { cells tables.new ≡ claim_from (cells tables.old) k s word }
+fn claim_from(
+    bits: &mut [u64],
+    spans: &mut [u64],
+    entries: &mut [u64],
+    heads: &mut [u64],
+    k: ClassHeap,
+    s: u64,
+    word: u64,
+)
+    requires { (n : ℕ) × (u : ℕ) × Own n k (table bits.old spans.old entries.old heads.old u) s }
+    ensures { (u : ℕ) → table bits.new spans.new entries.new heads.new u ≡ claim_from (table bits.old spans.old entries.old heads.old u) k s word }
 {
-    let max = k.capacity - magazine::count(tables.heads(), k);
-    let answer = span_steps::claim(tables.bits, tables.spans, s, max, word);
-    take(tables, k, s, answer);
+    let max = k.capacity - magazine::count(heads, k);
+    let answer = span_steps::claim(bits, spans, s, max, word);
+    take(spans, entries, heads, k, s, answer);
 }
 
 // The front partial span: its pending frees folded in, then one claim of it.
-pub fn claim_front(tables: &mut LentTables, k: ClassHeap, word: u64)
-    requires { (n : ℕ) × Fronted n k (cells tables.old) }
-    ensures lent { SameLent tables.old tables.new }
-    ensures cells { cells tables.new ≡ claim_front (cells tables.old) k word }
+pub fn claim_front(
+    bits: &mut [u64],
+    spans: &mut [u64],
+    entries: &mut [u64],
+    heads: &mut [u64],
+    k: ClassHeap,
+    word: u64,
+)
+    requires { (n : ℕ) × (u : ℕ) × Fronted n k (table bits.old spans.old entries.old heads.old u) }
+    ensures { (u : ℕ) → table bits.new spans.new entries.new heads.new u ≡ claim_front (table bits.old spans.old entries.old heads.old u) k word }
 {
-    let s = linked_list::front(tables.heads(), k.row, SpanList::Partial) - 1;
-    span_steps::fold(tables.bits, tables.spans, s);
-    claim_from(tables, k, s, word);
+    let s = linked_list::front(heads, k.row, SpanList::Partial as u64) - 1;
+    span_steps::fold(bits, spans, s);
+    claim_from(bits, spans, entries, heads, k, s, word);
 }

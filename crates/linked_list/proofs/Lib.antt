@@ -1,5 +1,6 @@
 pub mod Worked
 pub mod ReachLaws
+pub mod NumberLaws
 pub mod StoreLaws
 pub mod ListCells
 pub mod QuietLaws

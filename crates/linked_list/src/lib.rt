@@ -47,12 +47,12 @@ fn put_front(heads: &mut [u64], row: u64, list: SpanList, previous: u64, next: u
     }
 }
 
-// The link to the first span of a list of a row, 0 where the list is empty.
-pub fn front(heads: &[u64], row: u64, list: SpanList) -> u64
-    requires { head_cell row (place list) < length heads.now }
-    ensures { result ≡ get_or heads.now (head_cell row (place list)) 0 }
+// The link to the first span of list f of a row, 0 where the list is empty.
+pub fn front(heads: &[u64], row: u64, f: u64) -> u64
+    requires { head_cell row f < length heads.now }
+    ensures { result ≡ get_or heads.now (head_cell row f) 0 }
 {
-    tables::head(heads, row, list as u64)
+    tables::head(heads, row, f)
 }
 
 // Span s to the front of a list.
@@ -60,7 +60,7 @@ pub fn push(spans: &mut [u64], heads: &mut [u64], k: ClassHeap, list: SpanList, 
     requires { (n : ℕ) × Links n spans.old heads.old k.row × (s < n) }
     ensures { (b e : List ℕ) (u : ℕ) → table b spans.new e heads.new u ≡ pushed (table b spans.old e heads.old u) k (place list) s }
 {
-    let old = front(heads, k.row, list);
+    let old = front(heads, k.row, list as u64);
     put_links(spans, s, 0, old);
     put_linked(spans, old, PREVIOUS, s + 1);
     set_front(heads, k.row, list, s + 1);
@@ -86,7 +86,7 @@ pub fn pop(spans: &mut [u64], heads: &mut [u64], k: ClassHeap, list: SpanList) -
     ensures value { result ≡ get_or heads.old (head_cell k.row (place list)) 0 - 1 }
     ensures by_index_2 { (b e : List ℕ) (u : ℕ) → table b spans.new e heads.new u ≡ popped (table b spans.old e heads.old u) k (place list) }
 {
-    let s = front(heads, k.row, list) - 1;
+    let s = front(heads, k.row, list as u64) - 1;
     remove(spans, heads, k, list, s);
     s
 }

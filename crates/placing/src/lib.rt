@@ -24,7 +24,7 @@ fn release_empty(spans: &mut [u64], heads: &mut [u64], k: ClassHeap, s: u64)
     requires { (n : ℕ) × Links n spans.old heads.old k.row × (s < n) }
     ensures { (b e : List ℕ) (u : ℕ) → table b spans.new e heads.new u ≡ release_empty (table b spans.old e heads.old u) k s }
 {
-    let old = linked_list::front(heads, k.row, SpanList::Reserve);
+    let old = linked_list::front(heads, k.row, SpanList::Reserve as u64);
     tables::put_head(heads, k.row, SpanList::Reserve as u64, s + 1);
     demote(spans, heads, k, old);
 }
@@ -60,7 +60,7 @@ pub fn reactivate(spans: &mut [u64], heads: &mut [u64], k: ClassHeap)
     requires nonzero { 0 < get_or heads.old (head_cell k.row reserve) 0 + get_or heads.old (head_cell k.row empty_list) 0 }
     ensures { (b e : List ℕ) (u : ℕ) → table b spans.new e heads.new u ≡ reactivated (table b spans.old e heads.old u) k }
 {
-    let kept = linked_list::front(heads, k.row, SpanList::Reserve);
+    let kept = linked_list::front(heads, k.row, SpanList::Reserve as u64);
     if kept != 0 {
         tables::put_head(heads, k.row, SpanList::Reserve as u64, 0);
         linked_list::push(spans, heads, k, SpanList::Partial, kept - 1);

@@ -1,15 +1,16 @@
 -- The walk over the full spans, a span at a time; and what it keeps. Assumes nothing.
 use mathlib.Core.Path.{◌≡◌, refl, sym, ◌∙◌}
 use mathlib.Core.Bool.{true, false}
+use mathlib.Core.List.{List}
 use Prim.Native.Nat.{ℕ, zero, suc, ◌+◌, ◌-◌, ◌<◌, ◌≤◌}
 use native.Mathlib.Numerals.{sub-one}
 use native.Mathlib.Omega.{arith}
 use borrow.Author.Tests.{eq-eqb, ne_eqb, eqb-false}
-use lib.ListN.{get_or}
+use lib.ListN.{length, get_or}
 use lib.Dec.{eqb}
 use Rattle.laws.proofs.CondLaws.{cond_both}
 use Rattle.tables.specs.declared.ClassHeap.{ClassHeap}
-use Rattle.tables.specs.Cells.{Tables, next_at, head_cell, full_list, count_at}
+use Rattle.tables.specs.Cells.{Tables, tables, span_cell, next_field, next_at, head_cell, full_list, count_at}
 use Rattle.linked_list.proofs.QuietLaws.{quiet_count}
 use Rattle.span.specs.Room.{SpanCells, Foldable}
 use Rattle.span.specs.Span.{stored, has_pending, reclaim_pending}
@@ -123,36 +124,47 @@ reclaim_working i x w l = working_on w (reclaim_filled i x w l)
 
 -- ---- the loop
 
-pub record Walking (k : ClassHeap) (t₀ t : Tables) (at left : ℕ) : Type 0 where
+pub record Walking (used : ℕ) (k : ClassHeap) (b₀ sp₀ hd₀ b sp hd : List ℕ) (at left : ℕ) : Type 0 where
   pub limit : ℕ
-  pub working : Working limit k t
-  pub here : at ≤ t.used
-  pub used : t.used ≡ t₀.used
-  pub same : reclaim left t k at ≡ reclaim t₀.used t₀ k (get_or t₀.heads (head_cell k.row full_list) 0)
+  pub entries : List ℕ
+  pub working : Working limit k (tables b sp entries hd used)
+  pub here : at ≤ used
+  pub bits_length : length b ≡ length b₀
+  pub spans_length : length sp ≡ length sp₀
+  pub heads_length : length hd ≡ length hd₀
+  pub same : (e : List ℕ) (u : ℕ) → reclaim left (tables b sp e hd u) k at ≡ reclaim used (tables b₀ sp₀ e hd₀ u) k (get_or hd₀ (head_cell k.row full_list) 0)
 
 pub walk_start :
-    {n : ℕ} {k : ClassHeap} {t : Tables} {at left : ℕ} → Working n k t → at ≡ get_or t.heads (head_cell k.row full_list) 0 →
-    left ≡ t.used → Walking k t t at left
-walk_start {n} {k} {t} w q l =
+    (used n : ℕ) (k : ClassHeap) (b sp e hd : List ℕ) (at left : ℕ) → Working n k (tables b sp e hd used) → at ≡ get_or hd (head_cell k.row full_list) 0 →
+    left ≡ used → Walking used k b sp hd b sp hd at left
+walk_start used n k b sp e hd at left w q l =
     record {
       limit = n;
+      entries = e;
       working = w;
       here = rw q ((working_links w).fronts full_list (omega arith));
-      used = refl;
-      same = rw (q, l);
+      bits_length = refl;
+      spans_length = refl;
+      heads_length = refl;
+      same = λ e u. rw (q, l);
     }
 
-module _ {k : ClassHeap} {t₀ t t' : Tables} {at at' left rest : ℕ} (w : Walking k t₀ t at left) where
+module _ (used : ℕ) (k : ClassHeap) (b₀ sp₀ hd₀ b sp hd b' sp' hd' : List ℕ) (at at' left rest : ℕ) (w : Walking used k b₀ sp₀ hd₀ b sp hd at left) where
   pub walk_turn :
-      left ≡ rest + 1 → (at ≡ 0 → ⊥) → at' ≡ next_at t (at - 1) → t' ≡ reclaim_one t k (at - 1) → Walking k t₀ t' at' rest
-  walk_turn h n q z =
+      left ≡ rest + 1 → (at ≡ 0 → ⊥) → at' ≡ get_or sp (span_cell (at - 1) next_field) 0 →
+      length b' ≡ length b → length sp' ≡ length sp → length hd' ≡ length hd →
+      ((e : List ℕ) (u : ℕ) → tables b' sp' e hd' u ≡ reclaim_one (tables b sp e hd u) k (at - 1)) →
+      Walking used k b₀ sp₀ hd₀ b' sp' hd' at' rest
+  walk_turn h n q lb ls lh z =
       let l : rest ≡ left - 1 = omega (arith, h) in
-      let s : at - 1 < t.used = omega (arith, n, w.here) in
-      let e : t'.used ≡ t.used = rw z (reclaim_one_used t k (at - 1)) in
+      let s : at - 1 < used = omega (arith, n, w.here) in
       record {
         limit = w.limit;
-        working = rw z (reclaim_one_working w.working s);
-        here = rw (q, e) (w.working.filled.next (at - 1) s);
-        used = e ∙ w.used;
-        same = rw (q, z, l) (sym (reclaim_turn left t k at (omega (arith, h)) n) ∙ w.same);
+        entries = w.entries;
+        working = rw (z w.entries used) (reclaim_one_working w.working s);
+        here = rw q (w.working.filled.next (at - 1) s);
+        bits_length = lb ∙ w.bits_length;
+        spans_length = ls ∙ w.spans_length;
+        heads_length = lh ∙ w.heads_length;
+        same = λ e u. rw (q, z e u, l) (sym (reclaim_turn left (tables b sp e hd u) k at (omega (arith, h)) n) ∙ w.same e u);
       }

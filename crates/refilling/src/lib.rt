@@ -21,11 +21,25 @@ pub fn refill(tables: &mut LentTables, limit: u64, k: ClassHeap, words: &[u64]) 
         if magazine::count(tables.heads(), k) >= k.capacity {
             return i;
         }
-        replenishing::replenish(tables, limit, k);
-        if linked_list::front(tables.heads(), k.row, SpanList::Partial) == 0 {
+        replenishing::replenish(
+            tables.bits,
+            tables.spans,
+            tables.heads,
+            tables.used,
+            limit,
+            k,
+        );
+        if linked_list::front(tables.heads(), k.row, SpanList::Partial as u64) == 0 {
             return i;
         }
-        claiming::claim_front(tables, k, words[i as usize]);
+        claiming::claim_front(
+            tables.bits,
+            tables.spans,
+            tables.entries,
+            tables.heads,
+            k,
+            words[i as usize],
+        );
     }
     k.capacity
 }

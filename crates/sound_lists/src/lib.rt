@@ -33,7 +33,7 @@ fn list_met(view: &TablesView, k: ClassHeap, list: SpanList, low: u64, high: u64
     ensures { WalkAnswer (ListSound view.now k (place list) (Between low high)) (length (list_of view.now k (place list))) result }
 {
     let spans = view.spans;
-    let mut x = linked_list::front(view.heads, k.row, list);
+    let mut x = linked_list::front(view.heads, k.row, list as u64);
     let mut p: u64 = 0;
     let mut met: u64 = 0;
     while x != 0 {
@@ -64,8 +64,8 @@ pub fn class_met(view: &TablesView, k: ClassHeap) -> Option<u64>
     if kept > 1 {
         return None;
     }
-    let first = linked_list::front(heads, k.row, SpanList::Reserve);
-    let apart = first == 0 || linked_list::front(heads, k.row, SpanList::Empty) != first;
+    let first = linked_list::front(heads, k.row, SpanList::Reserve as u64);
+    let apart = first == 0 || linked_list::front(heads, k.row, SpanList::Empty as u64) != first;
     if !apart {
         return None;
     }

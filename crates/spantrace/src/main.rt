@@ -309,7 +309,7 @@ impl Trace {
             return None;
         }
         let occupied = tables::field(&self.records, s, OCCUPIED);
-        let kept = linked_list::front(&self.heads, k.row, SpanList::Reserve);
+        let kept = linked_list::front(&self.heads, k.row, SpanList::Reserve as u64);
         Some(SpanLine {
             span: s,
             slot: k.slot,

@@ -6,13 +6,13 @@ use Rattle.claiming.proofs.ClaimingLaws.{own_right, own_count, claimable_as, cla
 use Rattle.claiming.proofs.claim_from.Goals as goal
 
 pub count-requires : goal.count-requires
-count-requires c = rw c.heads.ensures (working_room c.requires.1.working).row
+count-requires c = (working_room c.requires.2.working).row
 
 pub overflow_sub-max : goal.overflow_sub-max
-overflow_sub-max c = let count = rw c.heads.ensures at c.count.ensures in omega (arith, own_count c.requires.1, count)
+overflow_sub-max c = omega (arith, own_count c.requires.2, c.count.ensures)
 
 pub claim-answer-requires : goal.claim-answer-requires
-claim-answer-requires c = let x = c.requires.1 in
+claim-answer-requires c = let x = c.requires.2 in
     record {
       span_cells = working_cells x.working x.belongs.used;
       by_index = own_right x;
@@ -20,14 +20,15 @@ claim-answer-requires c = let x = c.requires.1 in
 
 pub take-requires : goal.take-requires
 take-requires c =
-    let t = c.args.tables.now in
-    let p = c.requires in
-    let count = rw c.heads.ensures at c.count.ensures in
-    (p.0, claimable_as p.1 _ _ _ _ count c.claim-answer.ensures.answer (c.claim-answer.ensures.cells t.entries.now t.heads.now t.used.now))
+    let p = c.requires in (
+      p.0,
+      c.claim-answer.new.bits,
+      p.1,
+      claimable_as p.2 _ _ _ _ c.count.ensures c.claim-answer.ensures.answer (c.claim-answer.ensures.cells c.args.entries.now c.args.heads.now p.1),
+    )
 
-pub returns-clause-cells : goal.returns-clause-cells
-returns-clause-cells c =
-    let t = c.args.tables.now in
-    let count = rw c.heads.ensures at c.count.ensures in
-    claim_made _ _ _ _ _ _ _ _ count c.claim-answer.ensures.answer (c.claim-answer.ensures.cells t.entries.now t.heads.now t.used.now)
-    c.take.ensures.cells
+pub returns : goal.returns
+returns c =
+    λ u.
+    claim_made _ _ _ _ _ _ _ _ c.count.ensures c.claim-answer.ensures.answer (c.claim-answer.ensures.cells c.args.entries.now c.args.heads.now u)
+    (c.take.ensures _ u)

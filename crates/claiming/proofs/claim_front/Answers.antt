@@ -6,27 +6,24 @@ use Rattle.claiming.proofs.ClaimingLaws.{front_cells, front_foldable, fronted_fo
 use Rattle.claiming.proofs.claim_front.Goals as goal
 
 pub front-s-requires : goal.front-s-requires
-front-s-requires c = rw c.heads.ensures (head_here (working_links c.requires.1.own.working) (omega arith))
+front-s-requires c = head_here (working_links c.requires.2.own.working) (omega arith)
 
 pub overflow_sub-s : goal.overflow_sub-s
-overflow_sub-s c = let front = rw c.heads.ensures at c.front-s.ensures in omega (arith, c.requires.1.some, front)
+overflow_sub-s c = omega (arith, c.requires.2.some, c.front-s.ensures)
 
 pub fold-requires : goal.fold-requires
-fold-requires c = let x = c.requires.1 in let front = rw c.heads.ensures at c.front-s.ensures in
+fold-requires c = let x = c.requires.2 in
     record {
-      span_cells = front_cells x _ front;
-      by_index = front_foldable x _ front;
+      span_cells = front_cells x _ c.front-s.ensures;
+      by_index = front_foldable x _ c.front-s.ensures;
     }
 
 pub claim_from-requires : goal.claim_from-requires
 claim_from-requires c =
-    let t = c.args.tables.now in
     let p = c.requires in
-    let front = rw c.heads.ensures at c.front-s.ensures in
-    (p.0, fronted_fold p.1 _ _ front (c.fold.ensures t.entries.now t.heads.now t.used.now))
+    (p.0, p.1, fronted_fold p.2 _ _ c.front-s.ensures (c.fold.ensures c.args.entries.now c.args.heads.now p.1))
 
-pub returns-clause-cells : goal.returns-clause-cells
-returns-clause-cells c =
-    let t = c.args.tables.now in
-    let front = rw c.heads.ensures at c.front-s.ensures in
-    front_made _ _ _ _ _ _ front (c.fold.ensures t.entries.now t.heads.now t.used.now) c.claim_from.ensures.cells
+pub returns : goal.returns
+returns c =
+    λ u.
+    front_made _ _ _ _ _ _ c.front-s.ensures (c.fold.ensures c.args.entries.now c.args.heads.now u) (c.claim_from.ensures u)

@@ -6,7 +6,8 @@ use Rattle.claiming.proofs.take.Goals as goal
 
 pub push_claimed-requires : goal.push_claimed-requires
 push_claimed-requires c =
-    let x = claimable_is c.in-Taken.is c.requires.1 in
+    let p = c.requires in
+    let x = claimable_is c.in-Taken.is p.3 in
     let i = x.place _ _ refl in
     record {
       room = working_room x.working;
@@ -16,14 +17,13 @@ push_claimed-requires c =
 
 pub if_full-requires : goal.if_full-requires
 if_full-requires c =
-    let t = c.args.tables.now in
-    let x = claimable_is c.in-Taken.is c.requires.1 in
-    (_, working_links (working_as (c.push_claimed.ensures t.bits.now t.spans.now t.used.now) (pushed_working x)), x.used)
+    let p = c.requires in
+    let x = claimable_is c.in-Taken.is p.3 in
+    (p.2, working_links (working_as (c.push_claimed.ensures p.1 c.args.spans.now p.2) (pushed_working x)), x.used)
 
-pub returns-in-Nothing-clause-cells : goal.returns-in-Nothing-clause-cells
-returns-in-Nothing-clause-cells c = taken_none _ _ _ _ c.in-Nothing.is
+pub returns-in-Nothing : goal.returns-in-Nothing
+returns-in-Nothing c = λ b u. taken_none _ _ _ _ c.in-Nothing.is
 
-pub returns-in-Taken-clause-cells : goal.returns-in-Taken-clause-cells
-returns-in-Taken-clause-cells c =
-    let t = c.args.tables.now in
-    taken_some _ _ _ _ _ _ _ _ c.in-Taken.is (c.push_claimed.ensures t.bits.now t.spans.now t.used.now) (c.if_full.ensures t.bits.now _ t.used.now)
+pub returns-in-Taken : goal.returns-in-Taken
+returns-in-Taken c =
+    λ b u. taken_some _ _ _ _ _ _ _ _ c.in-Taken.is (c.push_claimed.ensures b c.args.spans.now u) (c.if_full.ensures b _ u)

@@ -2,6 +2,7 @@
 use native.Mathlib.Omega.{arith}
 use Rattle.tables.proofs.PlaceLaws.{place_le}
 use Rattle.linked_list.proofs.ReachLaws.{field_here, linked_here, few_spans_lem}
+use Rattle.linked_list.proofs.NumberLaws.{number_place}
 use Rattle.linked_list.proofs.StoreLaws.{push_made}
 use Rattle.linked_list.proofs.push.Goals as goal
 
@@ -21,7 +22,8 @@ overflow_add-s c =
 pub put_linked-requires : goal.put_linked-requires
 put_linked-requires c =
     let p = c.requires in
-    λ s h. omega (arith, linked_here p.1 {s = s} {f = 3} (p.1.fronts _ (place_le c.args.list)) (omega (arith, c.front-old.ensures)) (omega arith))
+    let front = rw (number_place c.args.list) at c.front-old.ensures in
+    λ s h. omega (arith, linked_here p.1 {s = s} {f = 3} (p.1.fronts _ (place_le c.args.list)) (omega (arith, front)) (omega arith))
 
 pub overflow_add-s-2 : goal.overflow_add-s-2
 overflow_add-s-2 c =
@@ -31,7 +33,7 @@ overflow_add-s-2 c =
 pub returns : goal.returns
 returns c b e u =
     push_made b e _ _ _ _ _ u _ _ _ _
-    c.front-old.ensures
+    (rw (number_place c.args.list) at c.front-old.ensures)
     c.put_links.ensures
     c.put_linked.ensures
     c.set_front.ensures

@@ -5,28 +5,25 @@ use Rattle.reclaiming.proofs.ReclaimingLaws.{working_cells, working_foldable, pe
 use Rattle.reclaiming.proofs.reclaim_one.Goals as goal
 
 pub has_pending-requires : goal.has_pending-requires
-has_pending-requires c = rw c.bits.ensures (working_cells c.requires.1 c.requires.2).words
+has_pending-requires c = (working_cells c.requires.3 c.requires.4).words
 
 pub reclaim_pending-requires : goal.reclaim_pending-requires
 reclaim_pending-requires c =
     record {
-      span_cells = working_cells c.requires.1 c.requires.2;
-      by_index = working_foldable c.requires.1 c.requires.2;
+      span_cells = working_cells c.requires.3 c.requires.4;
+      by_index = working_foldable c.requires.3 c.requires.4;
     }
 
 pub refile-requires : goal.refile-requires
 refile-requires c =
-    let t = c.args.tables.now in
     let p = c.requires in
-    (_, working_links (working_as (c.reclaim_pending.ensures t.entries.now t.heads.now t.used.now) (pending_working p.1 p.2)), p.2)
+    (p.2, working_links (working_as (c.reclaim_pending.ensures p.1 c.args.heads.now p.2) (pending_working p.3 p.4)), p.4)
 
-pub returns-then-has_pending-clause-cells : goal.returns-then-has_pending-clause-cells
-returns-then-has_pending-clause-cells c =
-    let t = c.args.tables.now in
-    reclaim_one_made _ _ _ _ _ (sym (rw c.bits.ensures at (c.has_pending.ensures t.spans.now t.entries.now t.heads.now t.used.now)) ∙ c.if-has_pending.true)
-    (c.reclaim_pending.ensures t.entries.now t.heads.now t.used.now) (c.refile.ensures _ t.entries.now t.used.now)
+pub returns-then-has_pending : goal.returns-then-has_pending
+returns-then-has_pending c =
+    λ e u.
+    reclaim_one_made _ _ _ _ _ (sym (c.has_pending.ensures c.args.spans.now e c.args.heads.now u) ∙ c.if-has_pending.true)
+    (c.reclaim_pending.ensures e c.args.heads.now u) (c.refile.ensures _ e u)
 
-pub returns-else-has_pending-clause-cells : goal.returns-else-has_pending-clause-cells
-returns-else-has_pending-clause-cells c =
-    let t = c.args.tables.now in
-    reclaim_one_kept _ _ _ (sym (rw c.bits.ensures at (c.has_pending.ensures t.spans.now t.entries.now t.heads.now t.used.now)) ∙ c.if-has_pending.false)
+pub returns-else-has_pending : goal.returns-else-has_pending
+returns-else-has_pending c = λ e u. reclaim_one_kept _ _ _ (sym (c.has_pending.ensures c.args.spans.now e c.args.heads.now u) ∙ c.if-has_pending.false)

@@ -2,7 +2,7 @@
 use mathlib.Core.Path.{refl, sym, ◌∙◌}
 use native.Mathlib.Omega.{arith}
 use Rattle.linked_list.proofs.ReachLaws.{head_here}
-use Rattle.tables.proofs.LentLaws.{lent_same, lent_on}
+use Rattle.tables.proofs.LentLaws.{lent_same}
 use Rattle.placing.proofs.PlacingKept.{working_links, working_room}
 use Rattle.refilling.proofs.RefillingLaws.{refill_full, refill_start, replenished_working, refill_ends, refill_fronted, refill_again, refill_done}
 use Rattle.refilling.proofs.refill.Goals as goal
@@ -26,7 +26,7 @@ returns-then-count-k-clause-refilled c =
     sym (refill_full _ _ _ _ _ _ (omega (arith, c.if-count-k.true, count))) ∙ c.loop-i.invariant.refill.same
 
 pub replenish-requires : goal.replenish-requires
-replenish-requires c = c.loop-i.invariant.refill.working
+replenish-requires c = (_, c.loop-i.invariant.refill.working)
 
 pub front-requires : goal.front-requires
 front-requires c =
@@ -35,18 +35,15 @@ front-requires c =
     rw c.heads-in-loop-i.ensures
     (head_here
     (working_links
-    (replenished_working _ _ _ _ _ _ _ r (omega arith) (omega (arith, c.if-count-k.false, count)) _ c.replenish.ensures.cells))
+    (replenished_working _ _ _ _ _ _ _ r (omega arith) (omega (arith, c.if-count-k.false, count)) _ (c.replenish.ensures _)))
     (omega arith))
-
-pub returns-then-front-eq0-clause-lent : goal.returns-then-front-eq0-clause-lent
-returns-then-front-eq0-clause-lent c = lent_on c.loop-i.invariant.lent c.replenish.ensures.lent
 
 pub returns-then-front-eq0-clause-refilled : goal.returns-then-front-eq0-clause-refilled
 returns-then-front-eq0-clause-refilled c =
     let r = c.loop-i.invariant.refill in
     let count = rw c.heads.ensures at c.count.ensures in
     let front = rw c.heads-in-loop-i.ensures at c.front.ensures in
-    refill_ends _ _ _ _ _ _ _ r (omega arith) (omega (arith, c.if-count-k.false, count)) _ c.replenish.ensures.cells
+    refill_ends _ _ _ _ _ _ _ r (omega arith) (omega (arith, c.if-count-k.false, count)) _ (c.replenish.ensures _)
     (sym front ∙ c.if-front-eq0.true)
 
 pub bounds-words-i : goal.bounds-words-i
@@ -58,7 +55,8 @@ claim_front-requires c =
     let count = rw c.heads.ensures at c.count.ensures in
     let front = rw c.heads-in-loop-i.ensures at c.front.ensures in (
       _,
-      refill_fronted _ _ _ _ _ _ _ r (omega arith) (omega (arith, c.if-count-k.false, count)) _ c.replenish.ensures.cells
+      _,
+      refill_fronted _ _ _ _ _ _ _ r (omega arith) (omega (arith, c.if-count-k.false, count)) _ (c.replenish.ensures _)
           (λ z. c.if-front-eq0.false (front ∙ z)),
     )
 
@@ -68,9 +66,9 @@ loop-i-preserved c =
     let count = rw c.heads.ensures at c.count.ensures in
     let front = rw c.heads-in-loop-i.ensures at c.front.ensures in
     record {
-      lent = lent_on (lent_on l.lent c.replenish.ensures.lent) c.claim_front.ensures.lent;
+      lent = record { bits = l.lent.bits; spans = l.lent.spans; entries = l.lent.entries; heads = l.lent.heads; used = l.lent.used };
       refill = refill_again _ _ _ _ _ _ _ l.refill (omega arith) (omega (arith, c.if-count-k.false, count)) _
-          c.replenish.ensures.cells (λ z. c.if-front-eq0.false (front ∙ z)) _ _ refl c.claim_front.ensures.cells _ (omega arith);
+          (c.replenish.ensures _) (λ z. c.if-front-eq0.false (front ∙ z)) _ _ refl (c.claim_front.ensures _) _ (omega arith);
     }
 
 pub returns-clause-lent : goal.returns-clause-lent

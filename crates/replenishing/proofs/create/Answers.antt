@@ -9,19 +9,16 @@ use Rattle.replenishing.proofs.create.Goals as goal
 pub new_span-requires : goal.new_span-requires
 new_span-requires c =
     record {
-      span_cells = unused_cells c.requires.1 c.requires.2;
-      slots_bound = few_slots c.requires.1 c.requires.2;
+      span_cells = unused_cells c.requires.2 c.requires.3;
+      slots_bound = few_slots c.requires.2 c.requires.3;
     }
 
 pub push-requires : goal.push-requires
 push-requires c =
-    let t = c.args.tables.now in
     let p = c.requires in
-    let q = c.new_span.ensures t.entries.now t.heads.now in
+    let q = c.new_span.ensures p.1 c.args.heads.now in
     let d = ap (λ (t : Tables). t.used) q ∙ new_used _ _ in
-    (_, working_links (working_as q (new_working p.1 p.2)), omega (arith, d))
+    (_, working_links (working_as q (new_working p.2 p.3)), omega (arith, d))
 
-pub returns-clause-cells : goal.returns-clause-cells
-returns-clause-cells c =
-    let t = c.args.tables.now in
-    create_made _ _ _ _ _ refl (c.new_span.ensures t.entries.now t.heads.now) (c.push.ensures _ t.entries.now _)
+pub returns : goal.returns
+returns c = λ e. create_made _ _ _ _ _ refl (c.new_span.ensures e c.args.heads.now) (c.push.ensures _ e _)

@@ -2,27 +2,22 @@
 use mathlib.Core.Path.{sym, ◌∙◌}
 use native.Mathlib.Omega.{arith}
 use Rattle.linked_list.proofs.ReachLaws.{head_here}
-use Rattle.tables.proofs.LentLaws.{lent_on}
 use Rattle.placing.proofs.PlacingKept.{working_as, working_links}
 use Rattle.replenishing.proofs.ReplenishingLaws.{reclaimed_working, replenish_none, replenish_made}
 use Rattle.replenishing.proofs.replenish.Goals as goal
 
 pub front-requires : goal.front-requires
-front-requires c = rw c.heads.ensures (head_here (working_links c.requires) (omega arith))
+front-requires c = head_here (working_links c.requires.1) (omega arith)
 
-pub returns-then-front-ne0-clause-cells : goal.returns-then-front-ne0-clause-cells
-returns-then-front-ne0-clause-cells c = let q = rw c.heads.ensures at c.front.ensures in replenish_none _ _ _ (λ z. c.if-front-ne0.true (q ∙ z))
+pub returns-then-front-ne0 : goal.returns-then-front-ne0
+returns-then-front-ne0 c = λ e. replenish_none _ _ _ (λ z. c.if-front-ne0.true (c.front.ensures ∙ z))
 
 pub reclaim-requires : goal.reclaim-requires
-reclaim-requires c = (_, c.requires)
+reclaim-requires c = (_, c.requires.0, c.requires.1)
 
 pub supply-requires : goal.supply-requires
-supply-requires c = working_as c.reclaim.ensures.cells (reclaimed_working c.requires)
+supply-requires c = let p = c.requires in (p.0, working_as (c.reclaim.ensures p.0 c.args.used.now) (reclaimed_working p.1))
 
-pub returns-clause-lent : goal.returns-clause-lent
-returns-clause-lent c = lent_on c.reclaim.ensures.lent c.supply.ensures.lent
-
-pub returns-clause-cells : goal.returns-clause-cells
-returns-clause-cells c =
-    let q = rw c.heads.ensures at c.front.ensures in
-    replenish_made _ _ _ _ _ (sym q ∙ c.if-front-ne0.false) c.reclaim.ensures.cells c.supply.ensures.cells
+pub returns : goal.returns
+returns c =
+    λ e. replenish_made _ _ _ _ _ (sym c.front.ensures ∙ c.if-front-ne0.false) (c.reclaim.ensures e c.args.used.now) (c.supply.ensures e)

@@ -4,6 +4,7 @@ use mathlib.Core.Path.{◌≡◌, sym, ap, subst}
 use Prim.Native.Nat.{◌+◌, ◌-◌}
 use native.Mathlib.Omega.{arith}
 use Rattle.tables.specs.Cells.{Tables, next_at, head_at}
+use Rattle.linked_list.proofs.NumberLaws.{number_place}
 use Rattle.span.proofs.CellsThere.{field_there}
 use Rattle.sound_spans.proofs.TestLaws.{granted, refuted}
 use Rattle.sound_lists.proofs.WalkLaws.{record_there, Reach, start, end, step, fits, endless}
@@ -12,7 +13,7 @@ use Rattle.sound_lists.proofs.list_met.Goals as goal
 pub loop-x-init : goal.loop-x-init
 loop-x-init c =
     let a = c.args in
-    let front : c.front-x.result ≡ head_at a.view.now a.k (place a.list) = rw (← c.view.view_is) c.front-x.ensures in
+    let front : c.front-x.result ≡ head_at a.view.now a.k (place a.list) = rw (← c.view.view_is) (rw (number_place a.list) at c.front-x.ensures) in
     subst (Reach a.view.now a.k (place a.list) a.low a.high 0 0) (sym front) (start a.view.now a.k (place a.list) a.low a.high)
 
 pub returns-then-met-view : goal.returns-then-met-view
