@@ -1,3 +1,4 @@
+pub mod AnsweredLaws
 pub mod HeapWorked
 pub mod FreesWorked
 pub mod Worked

@@ -1,4 +1,4 @@
--- A refusal is known by its number, and none has the number 0. Assumes nothing.
+-- A refusal is known by its number, and none has the number 0, so an answer without a value is known by its number too. Assumes nothing.
 use mathlib.Core.Path.{◌≡◌, refl, sym, ap, ◌∙◌}
 use mathlib.Core.Bool.{cond}
 use Prim.Native.Nat.{ℕ}
@@ -6,7 +6,8 @@ use native.Mathlib.Omega.{arith}
 use lib.Dec.{eqb}
 use Rattle.refusals.specs.declared.Refusal.{Refusal}
 use Rattle.refusals.specs.declared.Refusal.TheVariants.{NotAsStated, Unsound, NoSuchHeap, TooFewWords, TooLarge, Exhausted, NoSuchSlot, NotOut, Malformed, NotWhole}
-use Rattle.refusals.specs.Numbers.{number}
+use Rattle.std.specs.Prelude.{Result, Ok, Err}
+use Rattle.refusals.specs.Numbers.{number, number_of}
 
 refusal_of : ℕ → Refusal
 refusal_of n =
@@ -38,3 +39,10 @@ number_some e q =
 
 pub number_known : (e f : Refusal) → number e ≡ number f → e ≡ f
 number_known e f q = sym (refusal_back e) ∙ ap refusal_of q ∙ refusal_back f
+
+-- Two answers of one number are one answer.
+pub number_of_known : (x y : Result (Unit {0}) Refusal) → number_of x ≡ number_of y → x ≡ y
+number_of_known (Ok d) (Ok e) q = refl
+number_of_known (Ok d) (Err f) q = absurd (number_some f (sym q))
+number_of_known (Err e) (Ok d) q = absurd (number_some e q)
+number_of_known (Err e) (Err f) q = ap Err (number_known e f q)
