@@ -48,6 +48,20 @@ row_of g h c = h * classes g + c
 unfoldable pub base_of : Shape → ℕ → ℕ → ℕ
 base_of g h c = h * entries_per_heap g.sizes + magazine_offset g.sizes c
 
+-- class c of heap h, with its row of heads and the base of its magazine at hand
+unfoldable pub class_placed : List ℕ → ℕ → ℕ → ℕ → ℕ → ClassHeap
+class_placed sizes h c row base =
+    record {
+      class = c;
+      owner = h;
+      slot = slot_size sizes c;
+      slots = slots_per_span (slot_size sizes c);
+      capacity = capacity_for (slot_size sizes c);
+      low = low_water_for (capacity_for (slot_size sizes c));
+      row = row;
+      base = base;
+    }
+
 -- class c of heap h: its numbers and its places
 unfoldable pub class_heap : Shape → ℕ → ℕ → ClassHeap
 class_heap g h c =

@@ -2,7 +2,7 @@
 #![tactic(auto)]
 
 ghost use Rattle.std.specs.Prelude.{◌≡◌, ℕ, ◌+◌, ◌^◌, ◌<◌, length, get_or, set};
-ghost use Rattle.tables.specs.Shape.{shape, most_heaps, row_of, base_of, class_heap};
+ghost use Rattle.tables.specs.Shape.{shape, most_heaps, row_of, base_of, class_placed, class_heap};
 ghost use Rattle.tables.specs.Lent.{cells, SameLent};
 ghost use Rattle.tables.specs.Cells.{bitmap_cell, span_cell, head_cell, entry_of, entry_span, entry_slot};
 
@@ -276,7 +276,8 @@ fn base_of(sizes: &SlotSizes, heap: u64, class: u64) -> u64
 // One class of one heap, where its row and the base of its magazine are at hand.
 pub fn class_at(sizes: &SlotSizes, heap: u64, class: u64, row: u64, base: u64) -> ClassHeap
     requires { class < length sizes.now }
-    ensures { (most heaps n : ℕ) → row ≡ row_of (shape sizes.now most heaps n) heap class → base ≡ base_of (shape sizes.now most heaps n) heap class → result ≡ class_heap (shape sizes.now most heaps n) heap class }
+    ensures placed { result ≡ class_placed sizes.now heap class row base }
+    ensures home { (most heaps n : ℕ) → row ≡ row_of (shape sizes.now most heaps n) heap class → base ≡ base_of (shape sizes.now most heaps n) heap class → result ≡ class_heap (shape sizes.now most heaps n) heap class }
 {
     let slot = sizes.slot(class);
     let capacity = magazine_layout::capacity_for(slot);

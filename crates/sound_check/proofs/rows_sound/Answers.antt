@@ -57,38 +57,38 @@ loop-r-init c =
 pub class_met-requires-clause-class_cells : goal.class_met-requires-clause-class_cells
 class_met-requires-clause-class_cells c =
     let s = c.classes-classes.ensures in
-    let row = row_here c.shape.view_is s.count s.admissible c.loop-r.invariant.begins c.loop-r-test.true c.class_at-k.ensures in
+    let row = row_here c.shape.view_is s.count s.admissible c.loop-r.invariant.begins c.loop-r-test.true c.class_at-k.ensures.home in
     subst (ClassCells c.args.view.now.heads) (sym row.here) (heads_there c.requires row.heap row.class)
 
 pub returns-in_default-clause-rows : goal.returns-in_default-clause-rows
 returns-in_default-clause-rows c w =
     let s = c.classes-classes.ensures in
-    let row = row_here c.shape.view_is s.count s.admissible c.loop-r.invariant.begins c.loop-r-test.true c.class_at-k.ensures in
+    let row = row_here c.shape.view_is s.count s.admissible c.loop-r.invariant.begins c.loop-r-test.true c.class_at-k.ensures.home in
     c.in_default.ensures (subst (ClassLists c.args.view.now) (sym row.here) (w.each c.loop-r.r row.below).lists)
 
 pub magazine_sound-requires-clause-counted : goal.magazine_sound-requires-clause-counted
 magazine_sound-requires-clause-counted c =
     let s = c.classes-classes.ensures in
-    let row = row_here c.shape.view_is s.count s.admissible c.loop-r.invariant.begins c.loop-r-test.true c.class_at-k.ensures in
+    let row = row_here c.shape.view_is s.count s.admissible c.loop-r.invariant.begins c.loop-r-test.true c.class_at-k.ensures.home in
     subst (Counted c.args.view.now.heads) (sym row.here) ((heads_there c.requires row.heap row.class).rows _ (omega arith))
 
 pub magazine_sound-requires-clause-capacity_in_bounds : goal.magazine_sound-requires-clause-capacity_in_bounds
 magazine_sound-requires-clause-capacity_in_bounds c =
     let s = c.classes-classes.ensures in
-    let row = row_here c.shape.view_is s.count s.admissible c.loop-r.invariant.begins c.loop-r-test.true c.class_at-k.ensures in
+    let row = row_here c.shape.view_is s.count s.admissible c.loop-r.invariant.begins c.loop-r-test.true c.class_at-k.ensures.home in
     subst (λ (k : ClassHeap). k.base + k.capacity ≤ length c.args.view.now.entries) (sym row.here) (entries_there c.requires row.heap row.class)
 
 pub returns-then-not-magazine_sound-clause-rows : goal.returns-then-not-magazine_sound-clause-rows
 returns-then-not-magazine_sound-clause-rows c w =
     let s = c.classes-classes.ensures in
-    let row = row_here c.shape.view_is s.count s.admissible c.loop-r.invariant.begins c.loop-r-test.true c.class_at-k.ensures in
+    let row = row_here c.shape.view_is s.count s.admissible c.loop-r.invariant.begins c.loop-r-test.true c.class_at-k.ensures.home in
     refuted c.magazine_sound.result c.magazine_sound.ensures c.if-not-magazine_sound.true
     (subst (MagazineSound c.args.view.now) (sym row.here) (w.each c.loop-r.r row.below).magazine)
 
 pub overflow_add-total : goal.overflow_add-total
 overflow_add-total c =
     let s = c.classes-classes.ensures in
-    let row = row_here c.shape.view_is s.count s.admissible c.loop-r.invariant.begins c.loop-r-test.true c.class_at-k.ensures in
+    let row = row_here c.shape.view_is s.count s.admissible c.loop-r.invariant.begins c.loop-r-test.true c.class_at-k.ensures.home in
     omega (
       arith,
       passed_few _ _ (row_passed row c.loop-r.invariant.passed c.in-Some.ensures (granted c.magazine_sound.result c.magazine_sound.ensures c.if-not-magazine_sound.false)),
@@ -99,13 +99,13 @@ overflow_add-total c =
 pub overflow_add-base : goal.overflow_add-base
 overflow_add-base c =
     let s = c.classes-classes.ensures in
-    let row = row_here c.shape.view_is s.count s.admissible c.loop-r.invariant.begins c.loop-r-test.true c.class_at-k.ensures in
+    let row = row_here c.shape.view_is s.count s.admissible c.loop-r.invariant.begins c.loop-r-test.true c.class_at-k.ensures.home in
     record { fits = base_fits c.requires.few row c.loop-r.invariant.begins }
 
 pub loop-r-preserved : goal.loop-r-preserved
 loop-r-preserved c =
     let s = c.classes-classes.ensures in
-    let row = row_here c.shape.view_is s.count s.admissible c.loop-r.invariant.begins c.loop-r-test.true c.class_at-k.ensures in
+    let row = row_here c.shape.view_is s.count s.admissible c.loop-r.invariant.begins c.loop-r-test.true c.class_at-k.ensures.home in
     record {
       begins = ap₂ ◌+◌ c.loop-r.invariant.begins (row_capacity row) ∙ base_next c.args.shape.now row.sizes.some c.loop-r.r;
       passed = row_passed row c.loop-r.invariant.passed c.in-Some.ensures (granted c.magazine_sound.result c.magazine_sound.ensures c.if-not-magazine_sound.false);
