@@ -77,12 +77,20 @@ impl<const N: usize> Text<N> {
         ensures out_len_unchanged { length out.new ≡ length out.old }
         ensures copied { Copied out.old at self.now out.new result }
     {
-        if at >= out.len() {
-            return out.len();
-        }
-        let text = self.as_slice();
-        let n = text.len().min(out.len() - at);
-        out[at..at + n].copy_from_slice(&text[..n]);
-        at + n
+        put_text(out, at, self.as_slice())
     }
+}
+
+// What fits of a text of any length, in a lent buffer from the place at on. The answer is the next place.
+pub fn put_text(out: &mut [u8], at: usize, text: &[u8]) -> usize
+    ensures prefix_len { result ≤ length out.new }
+    ensures out_len_unchanged { length out.new ≡ length out.old }
+    ensures copied { Copied out.old at text.now out.new result }
+{
+    if at >= out.len() {
+        return out.len();
+    }
+    let n = text.len().min(out.len() - at);
+    out[at..at + n].copy_from_slice(&text[..n]);
+    at + n
 }
