@@ -1,5 +1,5 @@
 -- Laws of the lines: one entry more, the cells of a class, one part of a line after another. Assumes nothing.
-use Rattle.std.proofs.Common.{◌≡◌, ℕ, ◌+◌, ◌*◌, ◌<◌, ◌≤◌, List, ◌++◌, length, get_or, sym, refl, ap, ◌∙◌, subst, ap₂, arith}
+use Rattle.std.proofs.Common.{◌≡◌, ℕ, ◌+◌, ◌*◌, ◌<◌, ◌≤◌, List, ◌++◌, length, get_or, sym, refl, ap, ◌∙◌, subst, ap₂, arith, eq-eqb}
 use Rattle.laws.specs.Choice.{sum}
 use Rattle.laws.proofs.SumSteps.{sum_next}
 use Rattle.size_classes.specs.SlotSizes.{rising, groups, slot_sizes, slot_size, Admissible}
@@ -12,7 +12,12 @@ use Rattle.tables.specs.Cells.{head_cell}
 use Rattle.tables.proofs.MagazineCells.{base_within}
 use Rattle.trace_text.specs.Wrote.{Wrote}
 use Rattle.trace_text.proofs.Writing.{wrote_then}
-use Rattle.spantrace.specs.Trace.{naming, named_in}
+use Rattle.spantrace.specs.Trace.{place_of, naming, named_in}
+
+-- A span with no slot occupied, to which the reserve of its class and heap is a link, is the reserve.
+pub place_reserve : (slots occupied kept s : ℕ) → occupied ≡ 0 → kept ≡ s + 1 → 0x52 ≡ place_of slots occupied kept s
+unfolding place_of
+place_reserve slots occupied kept s e k = rw (eq-eqb occupied 0 e, eq-eqb kept (s + 1) k)
 
 -- No entry, and one more.
 pub named_none : (entries : List ℕ) (base s : ℕ) → 0 ≡ named_in entries base s 0

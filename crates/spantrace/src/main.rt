@@ -3,7 +3,8 @@
 
 ghost use Rattle.std.specs.Prelude.{◌≡◌, ◌+◌, ◌*◌, ◌/◌, ◌<◌, ◌≤◌, [], ◌∷◌, length};
 ghost use Rattle.calls.specs.Batch.{record_bytes};
-ghost use Rattle.spantrace.specs.Trace.{WroteAnswer, WroteSpan, letter, place_of, naming, named_in};
+ghost use Rattle.tables.specs.Cells.{tables as table};
+ghost use Rattle.spantrace.specs.Trace.{WroteAnswer, WroteSpan, SaidOf, letter, place_of, naming, named_in};
 
 use refusals::Refusal;
 use size_classes::SlotSizes;
@@ -25,8 +26,9 @@ const CHUNK_BYTES: usize = 14336;
 
 const CHUNK_ANSWERS: usize = 1536;
 
-// Room for the lines of 513 records, and for those of 32 spans and the end: at most 86 and 130 bytes each.
-const CHUNK_TEXT: usize = 44118;
+// Room for the lines of 513 records, 64 bytes each, and for those of 32 spans and the end, at most 130 each. The line of a record has less
+// than 40: its answer's number has at most 2 digits, its span 2 and its offset 7.
+const CHUNK_TEXT: usize = 32832;
 
 const LAST_TEXT: usize = 4224;
 
@@ -206,30 +208,20 @@ struct Trace {
 }
 
 impl Trace {
+    // A table whose cells are not made fresh yet.
     fn new() -> Trace {
-        let mut trace = Trace {
+        Trace {
             bits: [0; 4160],
             records: [0; 160],
             entries: [0; 3168],
             heads: [0; 960],
             used: 0,
             done: 0,
-        };
-        let mut tables = LentTables {
-            bits: &mut trace.bits,
-            spans: &mut trace.records,
-            entries: &mut trace.entries,
-            heads: &mut trace.heads,
-            used: &mut trace.used,
-        };
-        // The arrays are as long as 4 heaps and 32 spans ask, so this is not refused.
-        let _ = laggersten::fresh(HEAPS, SPANS, &mut tables);
-        trace
+        }
     }
 
-    // Performs whole records, three numbers for each; the batch may be refused as a whole.
-    fn perform(&mut self, bytes: &[u8]) -> Result<[u64; CHUNK_ANSWERS], Refusal> {
-        let mut answers = [0; CHUNK_ANSWERS];
+    // Makes the table fresh, where it stands: a table handed out by value is copied.
+    fn make_fresh(&mut self) {
         let mut tables = LentTables {
             bits: &mut self.bits,
             spans: &mut self.records,
@@ -237,13 +229,25 @@ impl Trace {
             heads: &mut self.heads,
             used: &mut self.used,
         };
-        laggersten::batch(HEAPS, SPANS, &mut tables, bytes, &mut answers)?;
-        Ok(answers)
+        // The arrays are as long as 4 heaps and 32 spans ask, so this is not refused.
+        let _ = laggersten::fresh(HEAPS, SPANS, &mut tables);
+    }
+
+    // Performs whole records, three numbers for each in the answers lent; the batch may be refused as a whole.
+    fn perform(&mut self, bytes: &[u8], answers: &mut [u64]) -> Result<(), Refusal> {
+        let mut tables = LentTables {
+            bits: &mut self.bits,
+            spans: &mut self.records,
+            entries: &mut self.entries,
+            heads: &mut self.heads,
+            used: &mut self.used,
+        };
+        laggersten::batch(HEAPS, SPANS, &mut tables, bytes, answers)
     }
 
     // The line of the next record.
     fn put_next(&mut self, answer: Answer, text: &mut Text<CHUNK_TEXT>)
-        ensures { WroteAnswer 44118 text.old self.new.done answer.number answer.span answer.offset text.new }
+        ensures { WroteAnswer 32832 text.old self.new.done answer.number answer.span answer.offset text.new }
     {
         self.done = self.done.wrapping_add(1);
         answer.put_line(self.done, text);
@@ -255,8 +259,9 @@ impl Trace {
     {
         let end = whole_bytes(bytes);
         let count = end / RECORD_BYTES;
-        match self.perform(&bytes[..end]) {
-            Ok(answers) => {
+        let mut answers = [0; CHUNK_ANSWERS];
+        match self.perform(&bytes[..end], &mut answers) {
+            Ok(()) => {
                 let (triples, _) = answers.as_chunks::<3>();
                 for triple in &triples[..count] {
                     self.put_next(Answer::from(*triple), text);
@@ -295,6 +300,7 @@ impl Trace {
     #[tactic(auto, unfolding(tables::specs::Cells::span_cell, tables::specs::Shape::record_cells, tables::specs::Shape::bitmap_cells))]
     fn span_line(&self, s: u64) -> Option<SpanLine>
         requires { s < 32 }
+        ensures { SaidOf (table self.now.bits self.now.records self.now.entries self.now.heads self.now.used) s result }
     {
         let class = tables::field(&self.records, s, CLASS);
         let owner = tables::field(&self.records, s, OWNER);
@@ -332,6 +338,13 @@ impl Trace {
         text.put_field(self.done);
         text.put(b'\n');
     }
+
+    // Writes these lines, in a text of their own.
+    fn finish<W: Write>(&self, output: &mut W) {
+        let mut text = Text::new();
+        self.put_last(&mut text);
+        let _ = output.write_all(text.as_slice());
+    }
 }
 
 // A failed write stops the reading, and no failure is an error of the program.
@@ -339,8 +352,7 @@ fn main(rt: HostRuntime) {
     let mut output = rt.stdout();
     let _ = output.write_all(b"spantrace 4 32\n");
     let mut trace = Trace::new();
+    trace.make_fresh();
     trace.all_turns(&mut rt.stdin(), &mut output);
-    let mut text = Text::new();
-    trace.put_last(&mut text);
-    let _ = output.write_all(text.as_slice());
+    trace.finish(&mut output);
 }
