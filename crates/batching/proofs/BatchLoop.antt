@@ -1,15 +1,17 @@
 -- The batch, a record at a time. Assumes nothing.
 use mathlib.Core.Path.{◌≡◌, refl, ap, ◌∙◌}
 use mathlib.Core.List.{List, [], ◌∷◌}
-use Prim.Native.Nat.{ℕ, zero, suc, ◌+◌, ◌*◌, ◌/◌, ◌<◌, ◌≤◌}
+use Prim.Native.Nat.{ℕ, zero, suc, ◌+◌, ◌*◌, ◌/◌, ◌%◌, ◌<◌, ◌≤◌}
 use native.Mathlib.Omega.{arith}
+use mathlib.Core.Bool.{false}
+use borrow.Author.Tests.{ne_eqb}
 use lib.ListN.{length}
 use lib.Seq.{length-sets}
 use Rattle.tables.specs.Shape.{Shape}
 use Rattle.tables.specs.Cells.{Tables}
 use Rattle.calls.specs.Outcome.{Outcome}
 use Rattle.calls.specs.Run.{perform_sound}
-use Rattle.calls.specs.Batch.{record_bytes, record_call, answer_cells, answered, batched, batch_from}
+use Rattle.calls.specs.Batch.{record_bytes, record_call, answer_cells, answered, batched, batch_from, whole_records}
 use Rattle.sound_calls.specs.Lent.{Lent}
 use Rattle.call_laws.proofs.SingleLaws.{perform_lent}
 
@@ -68,3 +70,14 @@ pub answer_there :
     (i n m long before : ℕ) → i < n → n ≡ m → m * answer_cells ≤ before → long ≡ before → i * answer_cells + answer_cells ≤ long
 unfolding answer_cells
 answer_there i n m long before l e h d = omega arith
+
+-- The count of records is a batch's.
+pub counted :
+    (g : Shape) (bytes a : List ℕ) (t : Tables) (n : ℕ) → n ≡ length bytes / record_bytes →
+    batch_from n 0 g t bytes a ≡ batch_from (length bytes / record_bytes) 0 g t bytes a
+counted g bytes a t n e = ap (λ (k : ℕ). batch_from k 0 g t bytes a) e
+
+-- Bytes that are no whole records.
+pub not_whole_lem : (bytes answers : List ℕ) → (length bytes % record_bytes ≡ 0 → ⊥) → false ≡ whole_records bytes answers
+unfolding whole_records
+not_whole_lem bytes answers n = rw (ne_eqb (length bytes % record_bytes) 0 n)
